@@ -46,8 +46,9 @@ def text_of(path):
 @cache
 def brought(path):
     """The names that a file uses, each with the module from which it comes."""
-    return {
-        name.split(" as ")[-1].strip(): start
-        for start, several, one in USE.findall(text_of(path))
-        for name in (several or one).split(",")
-    }
+    names = {}
+    for start, several, one in USE.findall(text_of(path)):
+        for name in (several or one).split(","):
+            way, _, last = name.split(" as ")[0].strip().rpartition(".")
+            names[name.split(" as ")[-1].strip() if " as " in name else last] = f"{start}.{way}" if way else start
+    return names

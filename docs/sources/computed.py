@@ -180,7 +180,7 @@ def formats():
 def views():
     """Of the text of the greatest view, and of how views come in."""
     number, name = 4_294_967_295, '"' * constant("base", "NAME_LIMIT")
-    channel = {"id": number, "links": [number] * constant("tree", "LINK_LIMIT"), "name": name, "parent": number,
+    channel = {"id": number, "links": [number] * constant("tree", "CHANNEL_LINK_LIMIT"), "name": name, "parent": number,
                "temporary": False}
     listens = [number] * constant("users", "LISTENED_CHANNELS")
     user = {"account": number, "channel": number, "deaf": False, "listens": listens, "mute": False, "name": name,

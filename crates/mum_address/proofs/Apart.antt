@@ -1,6 +1,5 @@
--- Headers are told apart.
-use Rattle.std.proofs.Common.{◌≡◌, ℕ, ◌≤◌, List, [], ◌++◌, length, Option, Some, refl, sym, ap, ◌∙◌, arith, inl, inr}
-use Rattle.mum_address.specs.Header.{mapped_octets, Tells, IsHeader}
+-- Headers are distinguished.
+use Rattle.mum_address.proofs.Common.{◌≡◌, ℕ, ◌≤◌, List, [], ◌++◌, length, Option, Some, refl, sym, ap, ◌∙◌, arith, inl, inr, mapped_octets, Tells, IsHeader}
 use Rattle.mum_address.proofs.Fronts.{whole_is, whole_read, front_read}
 
 pub one : (bytes : List ℕ) (told other : Option (List ℕ)) → IsHeader bytes told → IsHeader bytes other → told ≡ other

@@ -1,14 +1,8 @@
 -- What reading answers of the fronts of headers.
-use Rattle.std.proofs.Common.{◌≡◌, ℕ, ◌+◌, ◌-◌, ◌*◌, ◌/◌, ◌%◌, ◌^◌, ◌<◌, ◌≤◌, ◌⊎◌, Bool, true, false, List, [], ◌∷◌, ◌++◌, length, take, drop, replicate, Option, Some, None, refl, sym, ap, subst, ◌∙◌, append_assoc, arith, inl, inr}
-use Rattle.std.specs.Prelude.{◌==◌, ◌||◌, nat_lt, if◌then◌else◌}
-use Rattle.std.proofs.lemmas.Bool.{cases_eq, cases_Bool, le-ltb, lt-ltb, ltb-false, ltb-true, eqb-true, eq-eqb, ne_eqb, or_cases}
-use Rattle.std.proofs.lemmas.List.{append-nil, length-append, length-replicate, take_at, take-append-drop, length-take-le}
-use Rattle.std.proofs.lemmas.List.Elements.{All-append, All-cons, All-from_recursion, All-replicate, All-tail}
-use Rattle.mum_address.specs.Header.{AreBytes, signature, mapped_octets, Tells, IsHeader, BeginsNone, LacksBytes, Reading, is_command, is_other_family, is_family, least_rest, told_by, reading_rest, reading_high, reading_length, reading_family, reading_command, reading_behind, reading}
-use Rattle.mum_address.specs.Header.Reading.{needs, whole, refused}
+use Rattle.mum_address.proofs.Common.{◌≡◌, ℕ, ◌+◌, ◌-◌, ◌*◌, ◌/◌, ◌%◌, ◌^◌, ◌<◌, ◌≤◌, ◌⊎◌, Bool, true, false, List, [], ◌∷◌, ◌++◌, length, take, drop, replicate, Option, Some, None, refl, sym, ap, subst, ◌∙◌, append_assoc, arith, inl, inr, ◌==◌, ◌||◌, nat_lt, if◌then◌else◌, cases_eq, cases_Bool, le-ltb, lt-ltb, ltb-false, ltb-true, eqb-true, eq-eqb, ne_eqb, or_cases, append-nil, length-append, length-replicate, take_at, take-append-drop, length-take-le, All-append, All-cons, All-from_recursion, All-replicate, All-tail, AreBytes, signature, mapped_octets, Tells, IsHeader, BeginsNone, LacksBytes, Reading, is_command, is_other_family, is_family, least_rest, told_by, reading_rest, reading_high, reading_length, reading_family, reading_command, reading_behind, reading, needs, whole, refused}
 use Rattle.mum_address.proofs.Octets.{IsBytes, IsBytes-behind}
 
--- ---- what the rest tells, as a function
+-- ---- what the rest gives, as a function
 
 -- the command and the family are taken
 abbrev IsKnown : ℕ → ℕ → Type 0
@@ -70,7 +64,7 @@ Tells-told command family rest known long =
           (Tells-client family rest (subst (λ (c : ℕ). is_family c family ≡ true) is known.1) (subst (λ (c : ℕ). least_rest c family ≤ length rest) is long))
     ]
 
--- ---- headers behind their signature
+-- ---- headers after their signature
 
 record IsBody (bytes : List ℕ) (told : Option (List ℕ)) : Type 0 where
   command : ℕ
@@ -225,7 +219,7 @@ not_needs count e = cc
 not_whole : (told : Option (List ℕ)) → refused ≡ whole told → ⊥
 not_whole told e = cc
 
--- what has come behind the length
+-- what has come after the length
 pub record IsRestRead (command family len : ℕ) (bytes : List ℕ) (answer : Reading) : Type 0 where
   pub fits : len ≤ 520
   pub long : least_rest command family ≤ len
@@ -278,7 +272,7 @@ AreBytes-behind : (front bytes : List ℕ) → AreBytes (front ++ bytes) → Are
 AreBytes-behind [] bytes are = are
 AreBytes-behind (b ∷ front) bytes are = AreBytes-behind front bytes (All-tail (λ (byte : ℕ). byte < 2 ^ 8) b (front ++ bytes) are)
 
--- bytes of a signature, and four that tell of the relay's own connection
+-- bytes of a signature, and four that are of the relay's own connection
 lacking_are_bytes : (bytes more : List ℕ) → signature ≡ bytes ++ more → AreBytes (more ++ 0x20 ∷ 0 ∷ 0 ∷ 0 ∷ [])
 lacking_are_bytes bytes more is =
     All-append (λ (byte : ℕ). byte < 2 ^ 8) more (0x20 ∷ 0 ∷ 0 ∷ 0 ∷ []) (AreBytes-behind bytes more (subst AreBytes is signature_are_bytes)) four_are_bytes
@@ -292,7 +286,7 @@ record HasBody (bytes : List ℕ) (count : ℕ) : Type 0 where
   at_least_one : 1 ≤ count
   fits : length bytes + count ≤ 524
 
--- behind the whole length
+-- after the whole length
 body_rest : (command family high low count : ℕ) (bytes : List ℕ) → IsKnown command family → low < 256
     → reading_rest command family (high * 2 ^ 8 + low) bytes ≡ needs count → HasBody (command ∷ family ∷ high ∷ low ∷ bytes) count
 body_rest command family high low count bytes known lt e =
@@ -327,7 +321,7 @@ least-small command family =
       | inr own ↦ rw own (omega arith)
     ]
 
--- a body of so many zeros behind the length
+-- a body of n zeros after the length
 body_zeros : (command family len : ℕ) → IsKnown command family → least_rest command family ≤ len → len ≤ 520
     → IsBody (command ∷ family ∷ (len / 2 ^ 8) ∷ (len % 2 ^ 8) ∷ replicate len 0) (told_by command family (replicate len 0))
 body_zeros command family len known long fits =
@@ -335,7 +329,7 @@ body_zeros command family len known long fits =
     subst (λ (k : ℕ). IsBody (command ∷ family ∷ (k / 2 ^ 8) ∷ (k % 2 ^ 8) ∷ replicate len 0) (told_by command family (replicate len 0))) is
     (IsBody-told command family (replicate len 0) known (omega (arith, is, long)) (omega (arith, is, fits)))
 
--- behind the higher byte of the length
+-- after the higher byte of the length
 body_high : (command family high count : ℕ) → IsKnown command family → reading_high high ≡ needs count → HasBody (command ∷ family ∷ high ∷ []) count
 body_high command family high count known e =
     let p = passed (nat_lt 520 (high * 2 ^ 8)) (needs 1) (needs count) (not_needs count) e in
@@ -400,7 +394,7 @@ body_command count (command ∷ family ∷ bytes) fits e =
     let f = kept (is_family command family) (reading_length command family bytes) (needs count) (not_needs count) k.1 in
     body_length command family count bytes (k.0, f.0) (λ i. IsBytes-behind (command ∷ family ∷ []) bytes fits i) f.1
 
--- behind the length, of a whole header
+-- after the length, of a whole header
 whole_rest : (command family high low : ℕ) (bytes : List ℕ) (told : Option (List ℕ)) → IsKnown command family → low < 256
     → reading_rest command family (high * 2 ^ 8 + low) bytes ≡ whole told → IsBody (command ∷ family ∷ high ∷ low ∷ bytes) told
 whole_rest command family high low bytes told known lt e =
@@ -469,7 +463,7 @@ whole_read bytes told is =
       | inr some ↦ absurd (omega (arith, some.2, some.3))
     ]
 
--- a header whose missing bytes of the signature come, and four bytes that tell of the relay's own connection
+-- a header whose missing bytes of the signature come, and four bytes that are of the relay's own connection
 short_header : (bytes more : List ℕ) → signature ≡ bytes ++ more → IsHeader (bytes ++ (more ++ 0x20 ∷ 0 ∷ 0 ∷ 0 ∷ [])) (told_by 0x20 0 [])
 short_header bytes more is =
     IsHeader-body (0x20 ∷ 0 ∷ 0 ∷ 0 ∷ []) (sym (append_assoc bytes more (0x20 ∷ 0 ∷ 0 ∷ 0 ∷ [])) ∙ ap (λ (s : List ℕ). s ++ 0x20 ∷ 0 ∷ 0 ∷ 0 ∷ []) (sym is)) (body_zero_family 0x20 refl)

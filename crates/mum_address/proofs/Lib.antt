@@ -1,3 +1,4 @@
+mod Common
 mod Apart
 mod Fronts
 mod Octets

@@ -1,7 +1,5 @@
 -- Octets of an address.
-use Rattle.std.proofs.Common.{◌≡◌, ℕ, ◌+◌, ◌-◌, ◌*◌, ◌/◌, ◌%◌, ◌<◌, ◌≤◌, List, [], ◌∷◌, ◌++◌, length, take, zero, suc, refl, arith}
-use Rattle.std.specs.Net.Addr.{octets_of, segments_of}
-use Rattle.std.proofs.Math.ListN.{get_or}
+use Rattle.mum_address.proofs.Common.{◌≡◌, ℕ, ◌+◌, ◌-◌, ◌*◌, ◌/◌, ◌%◌, ◌<◌, ◌≤◌, List, [], ◌∷◌, ◌++◌, length, take, zero, suc, refl, arith, octets_of, segments_of, get_or}
 
 -- what is kept of each element of a slice of bytes
 abbrev pub IsBytes : List ℕ → Type 0

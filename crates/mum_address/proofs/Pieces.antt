@@ -1,11 +1,5 @@
 -- Headers that are read piece by piece.
-use Rattle.std.proofs.Common.{◌≡◌, ℕ, ◌+◌, ◌-◌, ◌*◌, ◌^◌, ◌≤◌, List, [], ◌∷◌, ◌++◌, length, take, drop, Option, refl, sym, ap, subst, ◌∙◌, append_assoc, arith, inl, inr}
-use Rattle.std.proofs.lemmas.Bool.{ltb-true}
-use Rattle.std.proofs.lemmas.List.{append-nil, length-append, length-drop, take_at, take-append-le, take-append-drop}
-use Rattle.std.specs.Prelude.{nat_lt}
-use Rattle.mum_address.specs.Header.{signature, IsHeader, Reading, is_command, is_family, told_by, reading_rest, reading_length, reading_family, reading_command, reading}
-use Rattle.mum_address.specs.Header.Reading.{needs, whole, refused}
-use Rattle.mum_address.specs.Reader.{wanted, IsRead}
+use Rattle.mum_address.proofs.Common.{◌≡◌, ℕ, ◌+◌, ◌-◌, ◌*◌, ◌^◌, ◌≤◌, List, [], ◌∷◌, ◌++◌, length, take, drop, Option, refl, sym, ap, subst, ◌∙◌, append_assoc, arith, inl, inr, ltb-true, append-nil, length-append, length-drop, take_at, take-append-le, take-append-drop, nat_lt, signature, IsHeader, Reading, is_command, is_family, told_by, reading_rest, reading_length, reading_family, reading_command, reading, needs, whole, refused, wanted, IsRead}
 use Rattle.mum_address.proofs.Fronts.{kept, passed, not_needs, needs_is, needs_more, rest_read, behind_read, front_read}
 
 -- ---- there is room for what is wanted

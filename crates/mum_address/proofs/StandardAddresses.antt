@@ -1,12 +1,6 @@
 -- Worked addresses, so that a wrong rule in the specs does not check.
-use Rattle.std.proofs.Common.{◌≡◌, ℕ, List, [], ◌++◌, length, codes, true, false, refl, sym, ap, ◌∙◌, arith}
-use Rattle.std.proofs.Math.ListN.{get_or}
-use Rattle.std.proofs.lemmas.List.{append_cancel_left, length-append}
-use Rattle.std.specs.Borrow.{Bor}
+use Rattle.mum_address.proofs.Common.{◌≡◌, ℕ, List, [], ◌++◌, length, codes, true, false, refl, sym, ap, ◌∙◌, arith, get_or, append_cancel_left, length-append, Bor, Place, Port, Path, IsPlaceText, IsTextBy}
 use Rattle.std.specs.declared.net.socket_addr.SocketAddr.TheVariants as Socket
-use Rattle.mum_address.specs.declared.address.Place.{Place}
-use Rattle.mum_address.specs.declared.address.Place.TheVariants.{Port, Path}
-use Rattle.mum_address.specs.Address.{IsPlaceText, IsTextBy}
 
 first : List ℕ → ℕ
 first text = get_or text 0 0

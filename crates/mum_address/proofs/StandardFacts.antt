@@ -1,8 +1,6 @@
 -- Worked headers, after section 2.2 of the document on the PROXY protocol, and worked addresses, so that a wrong rule in
 -- the specs does not check.
-use Rattle.std.proofs.Common.{◌≡◌, ℕ, List, [], ◌∷◌, ◌++◌, take, replicate, Some, None, codes}
-use Rattle.mum_address.specs.Header.{signature, reading_rest, reading_length, reading_family, reading_command, reading_behind, reading}
-use Rattle.mum_address.specs.Header.Reading.{needs, whole, refused}
+use Rattle.mum_address.proofs.Common.{◌≡◌, ℕ, List, [], ◌∷◌, ◌++◌, take, replicate, Some, None, codes, signature, reading_rest, reading_length, reading_family, reading_command, reading_behind, reading, needs, whole, refused}
 
 -- 203.0.113.7 and 127.0.0.1 with their ports
 abbrev ipv4_addresses : List ℕ

@@ -1,20 +1,17 @@
 -- The forms of an address at which the server listens.
 use Rattle.std.specs.Prelude.{ℕ, ◌≡◌, ◌≢◌, ◌⊎◌, Bool, true, false, List, [], ◌++◌, codes}
 use Rattle.std.specs.declared.net.socket_addr.SocketAddr.{SocketAddr}
-use Rattle.std.specs.declared.net.socket_addr.SocketAddr.TheVariants as Socket
-use Rattle.std.specs.Net.Addr.{ipv4_octets, ipv6_octets}
-use Rattle.std.specs.Net.Socket.{v4_ip, v6_ip}
-use Rattle.std.specs.Net.Grammar.{IsSocketText}
-use Rattle.mum_address.specs.declared.address.Place.{Place}
-use Rattle.mum_address.specs.declared.address.Place.TheVariants.{Port, Path}
+use Rattle.std.specs.Net.{Addr.ipv4_octets, Addr.ipv6_octets, Socket.v4_ip, Socket.v6_ip, Grammar.IsSocketText}
+use Rattle.mum_address.specs.declared.address.Place.{Place, TheVariants.Port, TheVariants.Path}
 use Rattle.mum_address.specs.declared.address.Address.{Address}
 use Rattle.mum_address.specs.Header.{mapped_octets}
+use Rattle.std.specs.declared.net.socket_addr.SocketAddr.TheVariants as Socket
 
 -- the text has no such prefix
 abbrev pub Lacks : List ℕ → List ℕ → Type 0
 Lacks prefix text = (rest : List ℕ) → text ≢ prefix ++ rest
 
--- the text of a socket in the machine: a path that is not empty behind `unix:`
+-- the text of a socket in the machine: a path that is not empty after `unix:`
 abbrev pub IsSocketPath : List ℕ → List ℕ → Type 0
 IsSocketPath text path = (text ≡ codes "unix:" ++ path) × (path ≢ [])
 
@@ -23,7 +20,7 @@ abbrev pub IsPlaceText : List ℕ → Place → Type 0
 IsPlaceText text (Port address) = Lacks (codes "unix:") text × IsSocketText text address
 IsPlaceText text (Path path) = IsSocketPath text path.now
 
--- the text of an address: the text of its place, behind `proxy:` where connections begin with headers
+-- the text of an address: the text of its place, after `proxy:` where connections begin with headers
 abbrev pub IsTextBy : Bool → List ℕ → Place → Type 0
 IsTextBy true text place = (rest : List ℕ) × (text ≡ codes "proxy:" ++ rest) × IsPlaceText rest place
 IsTextBy false text place = Lacks (codes "proxy:") text × IsPlaceText text place

@@ -1,10 +1,8 @@
--- The header of the PROXY protocol, version 2, by which a relay tells the address of its client: section 2.2 of
+-- The header of the PROXY protocol, version 2, by which a relay gives the address of its client: section 2.2 of
 -- https://www.haproxy.org/download/2.6/doc/proxy-protocol.txt. An address is its sixteen octets, as IPv6 writes it.
 use Rattle.std.specs.Prelude.{ℕ, ◌≡◌, ◌+◌, ◌-◌, ◌*◌, ◌/◌, ◌%◌, ◌^◌, ◌<◌, ◌≤◌, ◌==◌, ◌||◌, Bool, true, List, [], ◌∷◌, ◌++◌, length, take, All, Option, Some, None, nat_lt, if◌then◌else◌}
-use Rattle.std.specs.Option.{option_map}
-use Rattle.std.specs.Net.Addr.{ipv6_octets}
-use Rattle.mum_address.specs.declared.proxy.Header.{Header}
-use Rattle.mum_address.specs.declared.proxy.Header.TheVariants.{Needs, Whole, Refused}
+use Rattle.std.specs.{Option.option_map, Net.Addr.ipv6_octets}
+use Rattle.mum_address.specs.declared.proxy.Header.{Header, TheVariants.Needs, TheVariants.Whole, TheVariants.Refused}
 
 abbrev pub signature : List ℕ
 signature = 0x0D ∷ 0x0A ∷ 0x0D ∷ 0x0A ∷ 0x00 ∷ 0x0D ∷ 0x0A ∷ 0x51 ∷ 0x55 ∷ 0x49 ∷ 0x54 ∷ 0x0A ∷ []
@@ -18,9 +16,10 @@ mapped_octets octets = 0 ∷ 0 ∷ 0 ∷ 0 ∷ 0 ∷ 0 ∷ 0 ∷ 0 ∷ 0 ∷ 0 �
 -- the families with their protocol whose addresses are not taken: unspecified; UDP over IPv4 and IPv6; sockets of one
 -- machine, as streams and datagrams
 abbrev pub is_other_family : ℕ → Bool
-is_other_family family = (family == 0x00) || (family == 0x12) || (family == 0x22) || (family == 0x31) || (family == 0x32)
+is_other_family family =
+    (family == 0x00) || (family == 0x12) || (family == 0x22) || (family == 0x31) || (family == 0x32)
 
--- What address the command, the family with its protocol, and all bytes behind the length tell. The source comes first,
+-- What address the command, the family with its protocol, and all bytes after the length give. The source comes first,
 -- and further fields may follow the addresses and ports.
 pub data Tells : ℕ → ℕ → List ℕ → Option (List ℕ) → Type 0 where
   -- the relay's own connection, whatever its family
@@ -34,7 +33,7 @@ pub data Tells : ℕ → ℕ → List ℕ → Option (List ℕ) → Type 0 where
   -- a client with another address, or with none
   other : (family : ℕ) (rest : List ℕ) → is_other_family family ≡ true → Tells 0x21 family rest None
 
--- All these bytes are a header, which tells this address or none: the signature, the version with the command, the family
+-- All these bytes are a header, which gives this address or none: the signature, the version with the command, the family
 -- with the protocol, the length of the rest in two bytes, the higher first, and the rest.
 pub record IsHeader (bytes : List ℕ) (told : Option (List ℕ)) : Type 0 where
   pub command : ℕ
@@ -51,7 +50,7 @@ BeginsNone bytes = (more : List ℕ) (told : Option (List ℕ)) → IsHeader (by
 abbrev pub AreBytes : List ℕ → Type 0
 AreBytes bytes = All (λ byte. byte < 2 ^ 8) bytes
 
--- a header begins with these bytes, and each that does has at least so many more
+-- a header begins with these bytes, and each that does has at least n more
 pub record LacksBytes (bytes : List ℕ) (count : ℕ) : Type 0 where
   pub more : List ℕ
   pub told : Option (List ℕ)
@@ -63,7 +62,7 @@ pub record LacksBytes (bytes : List ℕ) (count : ℕ) : Type 0 where
 
 -- ---- reading, as a function
 
--- what bytes are: the front of a header that needs so many more at least, a whole header, or the front of none
+-- what bytes are: the front of a header that needs n more at least, a whole header, or the front of none
 pub data Reading : Type 0 where
   needs : ℕ → Reading
   whole : Option (List ℕ) → Reading
@@ -82,11 +81,12 @@ abbrev pub least_rest : ℕ → ℕ → ℕ
 least_rest command family =
     if command == 0x21 then (if family == 0x11 then 12 else if family == 0x21 then 36 else 0) else 0
 
--- the address that the rest tells
+-- the address that the rest gives
 abbrev pub told_by : ℕ → ℕ → List ℕ → Option (List ℕ)
 told_by command family rest =
     if command == 0x21
-    then (if family == 0x11 then Some (mapped_octets (take 4 rest)) else if family == 0x21 then Some (take 16 rest) else None)
+    then (if family == 0x11 then Some (mapped_octets (take 4 rest)) else if family
+    == 0x21 then Some (take 16 rest) else None)
     else None
 
 -- what has come of the rest, whose length is len
@@ -102,18 +102,19 @@ reading_rest command family len rest =
 abbrev pub reading_high : ℕ → Reading
 reading_high high = if nat_lt 520 (high * 2 ^ 8) then refused else needs 1
 
--- what has come behind the family
+-- what has come after the family
 unfoldable pub reading_length : ℕ → ℕ → List ℕ → Reading
 reading_length command family [] = needs 2
 reading_length command family (high ∷ []) = reading_high high
 reading_length command family (high ∷ low ∷ rest) = reading_rest command family (high * 2 ^ 8 + low) rest
 
--- what has come behind the command
+-- what has come after the command
 unfoldable pub reading_family : ℕ → List ℕ → Reading
 reading_family command [] = needs 3
-reading_family command (family ∷ bytes) = if is_family command family then reading_length command family bytes else refused
+reading_family command (family ∷ bytes) =
+    if is_family command family then reading_length command family bytes else refused
 
--- what has come behind the signature
+-- what has come after the signature
 unfoldable pub reading_command : List ℕ → Reading
 reading_command [] = needs 4
 reading_command (command ∷ bytes) = if is_command command then reading_family command bytes else refused

@@ -1,7 +1,6 @@
 -- A reader of headers.
 use Rattle.std.specs.Prelude.{ℕ, ◌≤◌, List, [], ◌++◌, length}
-use Rattle.mum_address.specs.Header.{Reading, reading}
-use Rattle.mum_address.specs.Header.Reading.{needs, whole, refused}
+use Rattle.mum_address.specs.Header.{Reading, reading, Reading.needs, Reading.whole, Reading.refused}
 
 -- how many bytes may be read next
 abbrev pub wanted : Reading → ℕ

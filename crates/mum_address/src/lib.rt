@@ -1,5 +1,5 @@
 //! Where the server listens, and where a client is: the forms of an address, the words of the environment about them, and
-//! the header by which a relay tells the address of its client.
+//! the header by which a relay gives the address of its client.
 #![tactic(auto)]
 
 mod address;

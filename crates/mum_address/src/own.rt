@@ -5,8 +5,8 @@ ghost use Rattle.std.specs.Net.Addr.{IsIpv6OfBits};
 
 use std::net::Ipv6Addr;
 
-/// The first of the addresses that are made here, `fd6d:7572:6d75:7200::`: unique local ones (RFC 4193, section 3.1) with
-/// `murmur` in their prefix of 64 bits.
+// The first of the addresses that are made here, `fd6d:7572:6d75:7200::`: unique local ones (RFC 4193, section 3.1) with
+// `murmur` in their prefix of 64 bits.
 const FIRST: u128 = 0xfd6d_7572_6d75_7200_0000_0000_0000_0000;
 
 /// The address of the connection of this number, whose peer is at this one: that of the peer, unless others may be there

@@ -1,4 +1,4 @@
-//! The header of the PROXY protocol, version 2, by which a relay tells the address of its client
+//! The header of the PROXY protocol, version 2, by which a relay gives the address of its client
 //! (https://www.haproxy.org/download/2.6/doc/proxy-protocol.txt, section 2.2).
 
 ghost use Rattle.std.specs.Prelude.{◌≡◌, ℕ, ◌≤◌, ◌↔◌, ◌++◌, List, [], length, take, Option, Some};
@@ -12,25 +12,25 @@ use std::net::{Ipv4Addr, Ipv6Addr};
 /// The longest header that is taken.
 pub const HEADER_LIMIT: usize = 536;
 
-/// The bytes up to the length, with it.
+// The bytes up to the length, with it.
 const FRONT_LENGTH: usize = 16;
 
-/// The greatest length of the rest.
+// The greatest length of the rest.
 const REST_LIMIT: usize = HEADER_LIMIT - FRONT_LENGTH;
 
 const SIGNATURE: [u8; 12] = *b"\r\n\r\n\0\r\nQUIT\n";
 
-/// Version 2, and whether the connection is for a client or the relay's own.
+// Version 2, and whether the connection is for a client or the relay's own.
 const FOR_A_CLIENT: u8 = 0x21;
 
 const FOR_THE_RELAY: u8 = 0x20;
 
-/// Families of addresses with their protocol. An address is taken from these two.
+// Families of addresses with their protocol. An address is taken from these two.
 const TCP_OVER_IPV4: u8 = 0x11;
 
 const TCP_OVER_IPV6: u8 = 0x21;
 
-/// From these none is taken.
+// From these none is taken.
 const UNSPECIFIED: u8 = 0x00;
 
 const UDP_OVER_IPV4: u8 = 0x12;
@@ -41,7 +41,7 @@ const UNIX_STREAM: u8 = 0x31;
 
 const UNIX_DATAGRAM: u8 = 0x32;
 
-/// The numbers for which the names of limits, commands and families stand.
+/// The numbers that the names of limits, commands and families stand for.
 pub fn limits()
     ensures header { HEADER_LIMIT ≡ 536 }
     ensures front { FRONT_LENGTH ≡ 16 }
@@ -72,11 +72,11 @@ pub enum Header {
 /// What these bytes are. The header of a client's connection is taken only with a family that the protocol names, that of
 /// the relay's own with any.
 pub fn header_of(bytes: &[u8]) -> Header
-    // All of them are a header, which tells this address or none.
+    // All of them are a header, which gives this address or none.
     ensures whole { (told : Option (List ℕ)) → (plain result ≡ whole told) ↔ IsHeader bytes.now told }
-    // No bytes behind them make them one.
+    // No bytes after them make them one.
     ensures refused { (plain result ≡ refused) ↔ BeginsNone bytes.now }
-    // A header begins with them, and each that does has at least so many bytes more.
+    // A header begins with them, and each that does has at least n bytes more.
     ensures needs { (count : ℕ) → plain result ≡ needs count → LacksBytes bytes.now count }
     // The same as a function.
     ensures exact { plain result ≡ reading bytes.now }
@@ -84,7 +84,7 @@ pub fn header_of(bytes: &[u8]) -> Header
     read(bytes)
 }
 
-/// A header tells one thing, and begins no other header. It is no longer than the limit, and an address is sixteen octets.
+/// A header says one thing, and begins no other header. It is no longer than the limit, and an address is sixteen octets.
 pub fn headers_are_told_apart()
     ensures one { (bytes : List ℕ) (told other : Option (List ℕ)) → IsHeader bytes told →
         IsHeader bytes other → told ≡ other }
@@ -117,7 +117,7 @@ fn read_signature(bytes: &[u8]) -> Header
     }
 }
 
-// The same for bytes behind the signature.
+// The same for bytes after the signature.
 #[tactic(auto, unfolding(crate::specs::Header::reading_command))]
 fn read_command(bytes: &[u8]) -> Header
     ensures { plain result ≡ reading_command bytes.now }
@@ -131,7 +131,7 @@ fn read_command(bytes: &[u8]) -> Header
     }
 }
 
-// The same for bytes behind the command.
+// The same for bytes after the command.
 #[tactic(auto, unfolding(crate::specs::Header::reading_family))]
 fn read_family(command: u8, bytes: &[u8]) -> Header
     ensures { plain result ≡ reading_family command bytes.now }
@@ -162,7 +162,7 @@ fn is_known_family(command: u8, family: u8) -> bool
     }
 }
 
-// The same for bytes behind the family.
+// The same for bytes after the family.
 #[tactic(auto, unfolding(crate::specs::Header::reading_length))]
 fn read_length(command: u8, family: u8, bytes: &[u8]) -> Header
     ensures { plain result ≡ reading_length command family bytes.now }
@@ -188,7 +188,7 @@ fn read_high(high: u8) -> Header
     }
 }
 
-// The same for bytes behind the length.
+// The same for bytes after the length.
 #[tactic(auto, unfolding(crate::specs::Header::reading_rest))]
 fn read_rest(command: u8, family: u8, length: usize, bytes: &[u8]) -> Header
     ensures { plain result ≡ reading_rest command family length bytes.now }
@@ -202,7 +202,7 @@ fn read_rest(command: u8, family: u8, length: usize, bytes: &[u8]) -> Header
     Header::Whole(source_of(command, family, bytes))
 }
 
-// The least length of the bytes behind it: two addresses and two ports, where it tells an address.
+// The least length of the bytes after it: two addresses and two ports, where it gives an address.
 fn least_length(command: u8, family: u8) -> usize
     ensures { result ≡ least_rest command family }
 {

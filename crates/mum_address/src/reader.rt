@@ -68,8 +68,8 @@ impl HeaderReader {
     }
 }
 
-/// Of a connection that begins with a header a reader reads that and no byte behind it: `bytes` are what it was given, put
-/// together, and `more` is what the connection gives behind them.
+/// Of a connection that begins with a header a reader reads that and no byte after it: `bytes` are what it was given, put
+/// together, and `more` is what the connection gives after them.
 pub fn reads_no_further()
     ensures no_further { (bytes more header behind : List ℕ) (told : Option (List ℕ)) → IsRead bytes →
         IsHeader header told → bytes ++ more ≡ header ++ behind → length bytes ≤ length header }
@@ -77,6 +77,6 @@ pub fn reads_no_further()
     ensures all { (bytes more header behind : List ℕ) (told : Option (List ℕ)) → IsRead bytes →
         IsHeader header told → bytes ++ more ≡ header ++ behind → wanted (reading bytes) ≡ 0 →
         bytes ≡ header }
-    // Whatever a connection begins with, it reads no more than so many bytes.
+    // Whatever a connection begins with, it reads no more than n bytes.
     ensures limit { (bytes : List ℕ) → IsRead bytes → length bytes ≤ HEADER_LIMIT }
 {}

@@ -1,24 +1,7 @@
 -- What the machine of frames makes of a frame that is no voice, no Version and no Ping.
-use Rattle.std.proofs.Common.{◌≡◌, ◌∙◌, ℕ, Bool, true, false, cond, List, ◌||◌, Option, Some, None, refl, sym, ap}
-use Rattle.std.proofs.lemmas.Bool.{true≢false}
-use Rattle.std.specs.Prelude.{◌==◌}
-use Rattle.std.specs.List.{list_any}
-use Rattle.mum_base.specs.Codes.{reason_code}
-use Rattle.mum_base.specs.declared.number.SessionId.{SessionId}
-use Rattle.mum_base.specs.declared.outcome.Reason.TheVariants.{NotRead}
-use Rattle.mum_frame.specs.declared.kind.TheConstants.{AUTHENTICATE, PING, UDP_TUNNEL, VERSION}
-use Rattle.mum_state.specs.declared.verdict.Verdict.{Verdict}
+use Rattle.mum_audit.proofs.Common.{◌≡◌, ◌∙◌, ℕ, Bool, true, false, cond, List, ◌||◌, Option, Some, None, refl, sym, ap, true≢false, ◌==◌, list_any, reason_code, SessionId, NotRead, AUTHENTICATE, PING, UDP_TUNNEL, VERSION, Verdict, StateValue, action, after_login, command_action, commands_after_login, ignore, login_action, other_action, tree_or_user_action, command_heard, login_heard, Machine, resumed, Action, Asked, Heard, Message, Malformed, TooLong, IsAsked, IsVerdict, stage_of, command_verdict, frame_verdict, heard_verdict}
 use Rattle.mum_state.specs.declared.verdict.Verdict.TheVariants.{Ignored}
-use Rattle.mum_state.specs.State.{StateValue}
-use Rattle.mum_session.specs.Action.{action, after_login, command_action, commands_after_login, ignore, login_action, other_action, tree_or_user_action}
-use Rattle.mum_session.specs.Heard.{command_heard, login_heard}
-use Rattle.mum_session.specs.Machine.{Machine, resumed, session_of}
-use Rattle.mum_session.specs.declared.action.Action.{Action}
-use Rattle.mum_session.specs.declared.command.Asked.{Asked}
-use Rattle.mum_session.specs.declared.heard.Heard.{Heard}
-use Rattle.mum_session.specs.declared.heard.Heard.TheVariants.{Message, Malformed, TooLong}
-use Rattle.mum_audit.specs.Acted.{IsAsked, IsVerdict, stage_of}
-use Rattle.mum_audit.specs.Decision.{command_verdict, frame_verdict, heard_verdict}
+use Rattle.mum_session.specs.Machine.{session_of}
 
 -- a test that is not met
 passed_over : {X : Type 0} (test : Bool) (x y : X) → test ≡ false → cond test x y ≡ y

@@ -1,11 +1,5 @@
 -- A journal that has lines can be written.
-use Rattle.std.proofs.Common.{◌≡◌, ℕ, List, [], ◌∷◌, None}
-use Rattle.mum_opening.specs.Opening.{document_fault}
-use Rattle.mum_record.specs.Journal.{Each, IsControl, IsEntry, IsTextOf, IsWritableControl, IsWritableEntry}
-use Rattle.mum_record.specs.declared.journal.ControlEntry.{ControlEntry}
-use Rattle.mum_record.specs.declared.journal.Journal.{Journal}
-use Rattle.mum_record.specs.declared.journal.WorkerEntry.{WorkerEntry}
-use Rattle.mum_audit.specs.Audit.{IsAuditable}
+use Rattle.mum_audit.proofs.Common.{◌≡◌, ℕ, List, [], ◌∷◌, None, document_fault, Each, IsControl, IsEntry, IsTextOf, IsWritableControl, IsWritableEntry, ControlEntry, Journal, WorkerEntry, IsAuditable}
 
 each_weaker : {X : Type 0} (P Q : X → Type 0) → ((x : X) → P x → Q x) → (xs : List X) → Each P xs → Each Q xs
 each_weaker P Q weaker [] all = tt

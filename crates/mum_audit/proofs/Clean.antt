@@ -1,9 +1,5 @@
 -- Findings of which none is one.
-use Rattle.std.proofs.Common.{◌≡◌, ℕ, Bool, true, false, cond, List, [], ◌∷◌, ◌++◌, Option, Some, None, refl}
-use Rattle.std.proofs.lemmas.Bool.{cond-true}
-use Rattle.mum_audit.specs.declared.finding.Finding.{Finding}
-use Rattle.mum_audit.specs.Audit.{first_wrong}
-use Rattle.mum_audit.specs.Workers.{next_line}
+use Rattle.mum_audit.proofs.Common.{◌≡◌, ℕ, Bool, true, false, cond, List, [], ◌∷◌, ◌++◌, Option, Some, None, refl, cond-true, Finding, first_wrong, next_line}
 
 -- nothing is wrong
 abbrev pub AreNone : List (Option Finding) → Type 0

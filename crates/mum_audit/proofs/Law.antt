@@ -1,19 +1,6 @@
 -- A journal is legal exactly where no line is wrong.
-use Rattle.std.proofs.Common.{◌≡◌, ◌≢◌, ◌∙◌, ℕ, ◌≤◌, List, [], Option, Some, None, refl, sym, ap}
-use Rattle.std.specs.Prelude.{◌↔◌}
-use Rattle.std.specs.List.{AllPairs, filter_map}
-use Rattle.std.proofs.lemmas.List.Elements.{All-from_recursion, recursion_from_All}
-use Rattle.mum_record.specs.declared.journal.Journal.{Journal}
-use Rattle.mum_record.specs.declared.journal.WorkerEntry.{WorkerEntry}
-use Rattle.mum_audit.specs.declared.audited.Audited.{Audited}
-use Rattle.mum_audit.specs.declared.audited.Audited.TheVariants.{Wrong}
-use Rattle.mum_audit.specs.declared.finding.Finding.{Finding}
-use Rattle.mum_audit.specs.Audit.{answer, audited, counts_of, entries_of, findings, findings_of_controls, first_line, first_wrong, lines_on, past_before, past_of}
-use Rattle.mum_audit.specs.Legal.{IsLegal, IsRight, closed_by, revision_of}
-use Rattle.mum_audit.specs.Workers.{Trail, before_workers, worker_findings}
-use Rattle.mum_audit.proofs.Clean.{none_above, none_below, none_both, none_from, none_wrong}
-use Rattle.mum_audit.proofs.Legality.{AllRight, right_verdicts, right_workers, verdicts_right, workers_right}
-use Rattle.mum_audit.proofs.Pairs.{Rise, all_pairs, apart_pairs, each_weaker, none_seen, pairs_apart, pairs_of, pairs_rise, rise_pairs}
+use Rattle.mum_audit.proofs.Common.{◌≡◌, ◌≢◌, ◌∙◌, ℕ, ◌≤◌, List, [], Option, Some, None, refl, sym, ap, ◌↔◌, AllPairs, filter_map, All-from_recursion, recursion_from_All, Journal, WorkerEntry, Audited, Wrong, Finding, answer, audited, counts_of, entries_of, findings, findings_of_controls, first_line, first_wrong, lines_on, past_before, past_of, IsLegal, IsRight, closed_by, revision_of, Trail, before_workers, worker_findings}
+use Rattle.mum_audit.proofs.{Clean.none_above, Clean.none_below, Clean.none_both, Clean.none_from, Clean.none_wrong, Legality.AllRight, Legality.right_verdicts, Legality.right_workers, Legality.verdicts_right, Legality.workers_right, Pairs.Rise, Pairs.all_pairs, Pairs.apart_pairs, Pairs.each_weaker, Pairs.none_seen, Pairs.pairs_apart, Pairs.pairs_of, Pairs.pairs_rise, Pairs.rise_pairs}
 
 -- before the lines of the workers
 abbrev trail_of : Journal → Trail

@@ -1,31 +1,7 @@
 -- Where no line is wrong the entries are as a legal journal has them, and the other way round.
-use Rattle.std.proofs.Common.{◌≡◌, ◌∙◌, ℕ, zero, suc, ◌≤◌, Bool, true, false, cond, eqb, ltb, List, [], ◌∷◌, ◌++◌, length, map, take, Option, Some, None, Result, Ok, Err, refl, sym, ap, subst, append_assoc}
-use Rattle.std.specs.Prelude.{slice_get}
-use Rattle.std.specs.List.{AllByRecursion, filter_map, flat_map}
-use Rattle.std.specs.Map.{lookup}
-use Rattle.std.specs.Option.{option_map}
-use Rattle.std.proofs.lemmas.Bool.{cond-false, eqb-false, le-ltb, ltb-false, ne_eqb}
-use Rattle.std.proofs.lemmas.List.{append-nil, map-append}
-use Rattle.std.proofs.lemmas.List.Elements.{filter_map-append}
-use Rattle.mum_base.specs.declared.number.SessionId.{SessionId}
-use Rattle.mum_record.specs.declared.journal.ControlEntry.{ControlEntry}
-use Rattle.mum_record.specs.declared.journal.Marked.{Marked}
-use Rattle.mum_record.specs.declared.journal.WorkerEntry.{WorkerEntry}
-use Rattle.mum_record.specs.declared.journal.WorkerEntry.TheVariants.{Voice, Closed}
-use Rattle.mum_route.specs.Route.{route}
-use Rattle.mum_voice.specs.declared.fault.BadVoice.{BadVoice}
-use Rattle.mum_voice.specs.Packet.{Parts, packet}
-use Rattle.mum_audit.specs.declared.finding.Finding.{Finding}
-use Rattle.mum_audit.specs.Controls.{after_entries, after_entry, control_findings, entry_finding, mark_on}
-use Rattle.mum_audit.specs.Finding.{audiences_differ, members_of, numbers_differ, same_members, same_verdict, verdicts_differ}
-use Rattle.mum_audit.specs.Legal.{IsHeard, IsRight, closed_by, revision_of}
-use Rattle.mum_audit.specs.Past.{Past, session_of, state_at}
-use Rattle.mum_audit.specs.Voice.{or_else, packet_finding, revision_finding, speaker_finding, voice_finding}
+use Rattle.mum_audit.proofs.Common.{◌≡◌, ◌∙◌, ℕ, zero, suc, ◌≤◌, Bool, true, false, cond, eqb, ltb, List, [], ◌∷◌, ◌++◌, length, map, take, Option, Some, None, Result, Ok, Err, refl, sym, ap, subst, append_assoc, slice_get, AllByRecursion, filter_map, flat_map, lookup, option_map, cond-false, eqb-false, le-ltb, ltb-false, ne_eqb, append-nil, map-append, filter_map-append, SessionId, ControlEntry, Marked, WorkerEntry, Voice, Closed, route, BadVoice, Parts, packet, Finding, after_entries, after_entry, control_findings, entry_finding, mark_on, audiences_differ, members_of, numbers_differ, same_members, same_verdict, verdicts_differ, IsHeard, IsRight, closed_by, revision_of, Past, session_of, state_at, or_else, packet_finding, revision_finding, speaker_finding, voice_finding, Trail, at_worker, closed_at, closing_finding, entry_findings, worker_findings}
+use Rattle.mum_audit.proofs.{Clean.AreNone, Clean.met_none, Clean.none_above, Clean.none_below, Clean.none_both, Clean.test_met, Pairs.Absent, Pairs.Apart, Pairs.Rise, Pairs.apart_back, Pairs.apart_both, Pairs.apart_front, Pairs.each_back, Pairs.each_both, Pairs.each_front, Same.members_are, Same.members_themselves, Same.same_is, Same.same_itself}
 use Rattle.mum_audit.specs.Workers as workers
-use Rattle.mum_audit.specs.Workers.{Trail, at_worker, closed_at, closing_finding, entry_findings, worker_findings}
-use Rattle.mum_audit.proofs.Clean.{AreNone, met_none, none_above, none_below, none_both, test_met}
-use Rattle.mum_audit.proofs.Pairs.{Absent, Apart, Rise, apart_back, apart_both, apart_front, each_back, each_both, each_front}
-use Rattle.mum_audit.proofs.Same.{members_are, members_themselves, same_is, same_itself}
 
 -- ---- the control entries
 
@@ -154,7 +130,7 @@ closings entries = filter_map closed_by entries
 keys_more : (closed : List (ℕ × ℕ)) (connection line : ℕ) → keys (closed ++ (connection, line) ∷ []) ≡ keys closed ++ connection ∷ []
 keys_more closed connection line = map-append (λ (one : ℕ × ℕ). one.0) closed ((connection, line) ∷ [])
 
--- the entries of a worker are right behind a trail
+-- the entries of a worker are right after a trail
 pub record AreRight (past : Past) (trail : Trail) (entries : List WorkerEntry) : Type 0 where
   pub rising : Rise trail.least (revisions entries)
   pub heard : AllByRecursion (IsRight past) entries

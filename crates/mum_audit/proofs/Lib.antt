@@ -1,3 +1,5 @@
+mod Common
+pub mod Public
 pub mod Acting
 pub mod Walks
 pub mod Texts

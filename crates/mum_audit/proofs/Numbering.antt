@@ -1,19 +1,6 @@
 -- Which line a finding is of.
-use Rattle.std.proofs.Common.{◌≡◌, ◌∙◌, ℕ, zero, suc, ◌+◌, ◌-◌, ◌^◌, ◌<◌, ◌≤◌, List, [], ◌∷◌, ◌++◌, length, map, Option, Some, None, refl, sym, ap, arith, length-append}
-use Rattle.std.specs.Prelude.{min, slice_get}
-use Rattle.std.proofs.lemmas.List.{length-map}
-use Rattle.std.proofs.lemmas.Option.{same_Some}
-use Rattle.mum_record.specs.Head.{first_step_line, head_lines, journal_line, version_with}
-use Rattle.mum_record.specs.Journal.{control_line, end_line, entry_line, lines_from, lines_of}
-use Rattle.mum_record.specs.declared.journal.ControlEntry.{ControlEntry}
-use Rattle.mum_record.specs.declared.journal.WorkerEntry.{WorkerEntry}
-use Rattle.mum_audit.specs.declared.finding.Finding.{Finding}
-use Rattle.mum_audit.specs.Audit.{findings, findings_of_controls, first_line, first_wrong, lines_on, past_before, past_of}
-use Rattle.mum_audit.specs.Controls.{after_entry, control_findings}
-use Rattle.mum_audit.specs.Lines.{EachLineIsTested, TheFirstIsNamed}
-use Rattle.mum_audit.specs.Past.{Past}
+use Rattle.mum_audit.proofs.Common.{◌≡◌, ◌∙◌, ℕ, zero, suc, ◌+◌, ◌-◌, ◌^◌, ◌<◌, ◌≤◌, List, [], ◌∷◌, ◌++◌, length, map, Option, Some, None, refl, sym, ap, arith, length-append, min, slice_get, length-map, same_Some, first_step_line, head_lines, journal_line, version_with, control_line, end_line, entry_line, lines_from, lines_of, ControlEntry, WorkerEntry, Finding, findings, findings_of_controls, first_line, first_wrong, lines_on, past_before, past_of, after_entry, control_findings, EachLineIsTested, TheFirstIsNamed, Past, Trail, at_worker, before_workers, entry_findings, next_line, worker_findings}
 use Rattle.mum_audit.specs.Workers as workers
-use Rattle.mum_audit.specs.Workers.{Trail, at_worker, before_workers, entry_findings, next_line, worker_findings}
 
 -- ---- one for each line
 

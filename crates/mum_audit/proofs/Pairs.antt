@@ -1,8 +1,5 @@
 -- Lists of which each pair is related, item by item.
-use Rattle.std.proofs.Common.{◌≢◌, ℕ, zero, suc, ◌≤◌, List, [], ◌∷◌, ◌++◌, sym, subst, arith, append_assoc}
-use Rattle.std.specs.List.{AllByRecursion, AllPairs}
-use Rattle.std.proofs.lemmas.List.{append-nil}
-use Rattle.std.proofs.lemmas.List.Elements.{All-from_recursion, recursion_from_All}
+use Rattle.mum_audit.proofs.Common.{◌≢◌, ℕ, zero, suc, ◌≤◌, List, [], ◌∷◌, ◌++◌, sym, subst, arith, append_assoc, AllByRecursion, AllPairs, append-nil, All-from_recursion, recursion_from_All}
 
 -- ---- pairs
 

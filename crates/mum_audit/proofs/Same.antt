@@ -1,12 +1,5 @@
 -- Verdicts and audiences that are tested for being one.
-use Rattle.std.proofs.Common.{◌≡◌, ◌∙◌, ℕ, suc, length, false, true, false, eqb, List, [], ◌∷◌, refl, ap}
-use Rattle.std.proofs.lemmas.Bool.{and_from, and_parts, and_right, eq-eqb, eqb-true, false≢true}
-use Rattle.mum_base.specs.declared.number.ChannelId.{ChannelId}
-use Rattle.mum_base.specs.declared.perm.Perm.{Perm}
-use Rattle.mum_base.specs.declared.reply.Mark.{Mark}
-use Rattle.mum_base.specs.declared.reply.Mark.TheVariants.{Accepted, Lacks, Refused, Rejected, Answer, Ignored}
-use Rattle.mum_route.specs.Route.{Member}
-use Rattle.mum_audit.specs.Finding.{same_member, same_members, same_verdict}
+use Rattle.mum_audit.proofs.Common.{◌≡◌, ◌∙◌, ℕ, suc, length, false, true, eqb, List, [], ◌∷◌, refl, ap, and_from, and_parts, and_right, eq-eqb, eqb-true, false≢true, ChannelId, Perm, Mark, Accepted, Lacks, Refused, Rejected, Answer, Ignored, Member, same_member, same_members, same_verdict}
 
 eqb-same : (n : ℕ) → eqb n n ≡ true
 eqb-same n = eq-eqb n n refl

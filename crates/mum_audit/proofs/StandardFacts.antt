@@ -1,33 +1,6 @@
 -- Journals of two logins, a packet and two ends, worked out by hand, so that a wrong rule in the specs does not check.
-use Prim.Native.String.{String}
-use Rattle.std.proofs.Common.{◌≡◌, ℕ, true, List, [], ◌∷◌, codes, Some, None, refl}
-use Rattle.std.specs.Fmt.{digits}
-use Rattle.hex.specs.Hex.{encode_with}
-use Rattle.mum_base.proofs.Hex.{hex}
+use Rattle.mum_audit.proofs.Common.{String, ◌≡◌, ℕ, true, List, [], ◌∷◌, codes, Some, None, refl, digits, encode_with, hex, Mark, Accepted, Ignored, messages, kind_of, named_length, payload_of, spelling_of, authenticate_of, ControlEntry, Journal, Marked, WorkerEntry, Voice, Closed, is_open, user_payload, verdict, state, is_reached, audio_len, opus_len, packet, segments_len, segments_len_within, number_at, word_at, Legal, Wrong, audited, findings, first_wrong, lines_on, control_findings, decided, voice_finding, entry_findings, worker_findings}
 use Rattle.mum_base.specs.declared.number.Cause.TheVariants as causes
-use Rattle.mum_base.specs.declared.reply.Mark.{Mark}
-use Rattle.mum_base.specs.declared.reply.Mark.TheVariants.{Accepted, Ignored}
-use Rattle.mum_fields.proofs.Worked.{messages}
-use Rattle.mum_frame.specs.Frame.{kind_of, named_length, payload_of, spelling_of}
-use Rattle.mum_msg_state.specs.Parts.{authenticate_of}
-use Rattle.mum_record.specs.declared.journal.ControlEntry.{ControlEntry}
-use Rattle.mum_record.specs.declared.journal.Journal.{Journal}
-use Rattle.mum_record.specs.declared.journal.Marked.{Marked}
-use Rattle.mum_record.specs.declared.journal.WorkerEntry.{WorkerEntry}
-use Rattle.mum_record.specs.declared.journal.WorkerEntry.TheVariants.{Voice, Closed}
-use Rattle.mum_rules_tree.specs.Decision.{is_open}
-use Rattle.mum_rules_user.specs.Asked.{payload_of as user_payload}
-use Rattle.mum_session.specs.Verdict.{verdict}
-use Rattle.mum_state.proofs.Scenes.{state}
-use Rattle.mum_tree.specs.Walks.{is_reached}
-use Rattle.mum_voice.specs.Packet.{audio_len, opus_len, packet, segments_len, segments_len_within}
-use Rattle.mum_voice.specs.Varint.{number_at, word_at}
-use Rattle.mum_audit.specs.declared.audited.Audited.TheVariants.{Legal, Wrong}
-use Rattle.mum_audit.specs.Audit.{audited, findings, first_wrong, lines_on}
-use Rattle.mum_audit.specs.Controls.{control_findings}
-use Rattle.mum_audit.specs.Decision.{decided}
-use Rattle.mum_audit.specs.Voice.{voice_finding}
-use Rattle.mum_audit.specs.Workers.{entry_findings, worker_findings}
 
 -- what all facts below compute with
 unfoldable audits : Type 0

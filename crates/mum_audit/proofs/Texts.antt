@@ -1,12 +1,5 @@
 -- The text of an audience, member by member.
-use Rattle.std.proofs.Common.{◌≡◌, ◌∙◌, ℕ, List, [], ◌∷◌, ◌++◌, length, map, sym, ap}
-use Rattle.std.specs.Prelude.{decimal}
-use Rattle.std.specs.List.{flat_map}
-use Rattle.std.proofs.lemmas.List.{append-nil, length-map}
-use Rattle.std.proofs.lemmas.List.Folds.{flat_map-map}
-use Rattle.mum_record.specs.Words.{line_of_words}
-use Rattle.mum_route.specs.Route.{Member}
-use Rattle.mum_audit.specs.Finding.{audience_text, member_word}
+use Rattle.mum_audit.proofs.Common.{◌≡◌, ◌∙◌, ℕ, List, [], ◌∷◌, ◌++◌, length, map, sym, ap, decimal, flat_map, append-nil, length-map, flat_map-map, line_of_words, Member, audience_text, member_word}
 
 words_more : (word : List ℕ) (members : List Member) → line_of_words (word ∷ map member_word members) ≡ word ++ flat_map (λ m. 32 ∷ member_word m) members
 words_more word [] = sym (append-nil word)

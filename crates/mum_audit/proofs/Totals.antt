@@ -1,15 +1,5 @@
 -- Counts that are added up entry by entry.
-use Rattle.std.proofs.Common.{◌≡◌, ◌∙◌, ℕ, suc, ◌+◌, ◌-◌, ◌^◌, ◌≤◌, Bool, List, [], ◌∷◌, ◌++◌, length, filter, refl, sym, ap, arith, length-append}
-use Rattle.std.specs.List.{flat_map}
-use Rattle.std.proofs.lemmas.List.Elements.{filter-append}
-use Rattle.mum_record.specs.declared.journal.Journal.{Journal}
-use Rattle.mum_record.specs.declared.journal.Marked.{Marked}
-use Rattle.mum_record.specs.declared.journal.WorkerEntry.{WorkerEntry}
-use Rattle.mum_record.specs.declared.journal.WorkerEntry.TheVariants.{Voice, Closed}
-use Rattle.mum_audit.specs.declared.count.Counts.{Counts}
-use Rattle.mum_audit.specs.declared.audited.Audited.TheVariants.{Legal}
-use Rattle.mum_audit.specs.Audit.{copies_in, counts_of, entries_of, is_full, is_sent, is_voice, total}
-use Rattle.mum_audit.specs.Counts.{no_counts, with_entries, with_entry, with_workers}
+use Rattle.mum_audit.proofs.Common.{◌≡◌, ◌∙◌, ℕ, suc, ◌+◌, ◌-◌, ◌^◌, ◌≤◌, Bool, List, [], ◌∷◌, ◌++◌, length, filter, refl, sym, ap, arith, length-append, flat_map, filter-append, Journal, Marked, WorkerEntry, Voice, Closed, Counts, Legal, copies_in, counts_of, entries_of, is_full, is_sent, is_voice, total, no_counts, with_entries, with_entry, with_workers}
 
 total_more : (a m n : ℕ) → total (total (a + m) + n) ≡ total (a + (m + n))
 total_more a m n = omega arith

@@ -1,20 +1,6 @@
 -- One line further: what is wrong from there on, and what is taken in.
-use Rattle.std.proofs.Common.{◌≡◌, ◌∙◌, ℕ, zero, suc, ◌+◌, ◌<◌, ◌≤◌, List, [], ◌∷◌, ◌++◌, length, get_or, drop, Option, Some, None, refl, sym, ap, subst, arith}
-use Rattle.std.proofs.lemmas.List.{at_drop_all, at_drop_more}
-use Rattle.mum_history.specs.View.{IsViewOf, ViewValue}
-use Rattle.mum_history.proofs.Fronts.{views_stay}
-use Rattle.mum_state.specs.State.{StateValue}
-use Rattle.mum_record.specs.Journal.{Each}
-use Rattle.mum_record.specs.declared.journal.ControlEntry.{ControlEntry}
-use Rattle.mum_record.specs.declared.journal.Journal.{Journal}
-use Rattle.mum_record.specs.declared.journal.WorkerEntry.{WorkerEntry}
-use Rattle.mum_record.specs.declared.journal.WorkerEntry.TheVariants.{Voice, Closed}
-use Rattle.mum_audit.specs.declared.finding.Finding.{Finding}
-use Rattle.mum_audit.specs.Audit.{findings, findings_of_controls, first_line, first_wrong, lines_on, past_before, past_of}
-use Rattle.mum_audit.specs.Controls.{after_entries, after_entry, control_findings, entry_finding}
-use Rattle.mum_audit.specs.Past.{Past}
+use Rattle.mum_audit.proofs.Common.{◌≡◌, ◌∙◌, ℕ, zero, suc, ◌+◌, ◌<◌, ◌≤◌, List, [], ◌∷◌, ◌++◌, length, get_or, drop, Option, Some, None, refl, sym, ap, subst, arith, at_drop_all, at_drop_more, IsViewOf, ViewValue, views_stay, StateValue, Each, ControlEntry, Journal, WorkerEntry, Voice, Closed, Finding, findings, findings_of_controls, first_line, first_wrong, lines_on, past_before, past_of, after_entries, after_entry, control_findings, entry_finding, Past, Trail, before_workers, entry_findings, next_line, worker_findings}
 use Rattle.mum_audit.specs.Workers as workers
-use Rattle.mum_audit.specs.Workers.{Trail, before_workers, entry_findings, next_line, worker_findings}
 
 -- ---- findings
 
@@ -83,7 +69,7 @@ module _ (past : Past) (trail : Trail) (entries : List WorkerEntry) (i : ℕ) (e
 
 -- ---- the workers
 
--- so many findings further, the line is that of the trail
+-- n findings further, the line is that of the trail
 pub lines_after : (past : Past) (trail : Trail) (entries : List WorkerEntry) → lines_on trail.line (entry_findings past trail entries) ≡ (workers.after_entries trail entries).line
 unfolding lines_on entry_findings
 lines_after past trail [] = refl
@@ -135,7 +121,7 @@ each_at P [] i x all within is = absurd (omega (arith, within))
 each_at P (first ∷ xs) zero x all within is = rw is all.0
 each_at P (first ∷ xs) (suc i) x all within is = each_at P xs i x all.1 (omega (arith, within)) is
 
--- ---- behind the last
+-- ---- after the last
 
 pub controls_over : (past : Past) (line : ℕ) (entries : List ControlEntry) (i : ℕ) → length entries ≤ i → first_wrong line (control_findings past (drop i entries)) ≡ None
 unfolding control_findings first_wrong
@@ -185,7 +171,7 @@ found_in_controls journal past line slice found past_is line_is slice_is is =
     ∙ ap (λ (n : ℕ). first_wrong n (control_findings (past_before journal) slice)) line_is
     ∙ ap (λ (es : List ControlEntry). first_wrong (first_line journal) (control_findings (past_before journal) es)) slice_is)
 
--- what is known behind the control entries
+-- what is known after the control entries
 pub past_behind : (journal : Journal) (past after : Past) (slice : List ControlEntry) → past ≡ past_before journal → slice ≡ journal.controls → after ≡ after_entries past slice → after ≡ past_of journal
 past_behind journal past after slice past_is slice_is is =
     is ∙ ap (λ (p : Past). after_entries p slice) past_is ∙ ap (after_entries (past_before journal)) slice_is

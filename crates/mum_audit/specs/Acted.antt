@@ -1,14 +1,11 @@
 -- What the machine of frames makes of the frame of an entry.
 use Rattle.std.specs.Prelude.{◌≡◌, Option, Some, None, ⊤}
 use Rattle.mum_base.specs.declared.number.SessionId.{SessionId}
-use Rattle.mum_state.specs.declared.verdict.Verdict.{Verdict}
-use Rattle.mum_state.specs.declared.verdict.Verdict.TheVariants.{Ignored}
+use Rattle.mum_state.specs.declared.verdict.Verdict.{Verdict, TheVariants.Ignored}
 use Rattle.mum_state.specs.State.{StateValue}
 use Rattle.mum_session.specs.Verdict.{verdict}
-use Rattle.mum_session.specs.declared.action.Action.{Action}
-use Rattle.mum_session.specs.declared.action.Action.TheVariants.{Ask, Ignore}
-use Rattle.mum_session.specs.declared.session.Stage.{Stage}
-use Rattle.mum_session.specs.declared.session.Stage.TheVariants.{BeforeLogin, LoggedIn}
+use Rattle.mum_session.specs.declared.action.Action.{Action, TheVariants.Ask, TheVariants.Ignore}
+use Rattle.mum_session.specs.declared.session.Stage.{Stage, TheVariants.BeforeLogin, TheVariants.LoggedIn}
 
 -- how far a connection has come that has this session, if it has one
 abbrev pub stage_of : Option SessionId → Stage

@@ -1,18 +1,13 @@
 -- The answer of an audit: the counts of a legal journal, or the first wrong line.
 use Rattle.std.specs.Prelude.{◌≡◌, ℕ, ◌-◌, ◌^◌, min, not, Bool, true, false, List, [], ◌∷◌, ◌++◌, length, filter, Option, Some, None}
 use Rattle.std.specs.List.{flat_map}
-use Rattle.mum_opening.specs.Opening.{document_fault, opening}
-use Rattle.mum_record.specs.Head.{first_step_line, version_with}
-use Rattle.mum_record.specs.Journal.{IsWritableJournal}
-use Rattle.mum_record.specs.declared.journal.Journal.{Journal}
-use Rattle.mum_record.specs.declared.journal.Marked.{Marked}
-use Rattle.mum_record.specs.declared.journal.WorkerEntry.{WorkerEntry}
+use Rattle.mum_record.specs.{Head.first_step_line, Head.version_with, Journal.IsWritableJournal}
+use Rattle.mum_record.specs.declared.journal.{Journal.Journal, Marked.Marked, WorkerEntry.WorkerEntry}
 use Rattle.mum_record.specs.declared.journal.WorkerEntry.TheVariants.{Voice, Closed}
-use Rattle.mum_audit.specs.declared.audited.Audited.{Audited}
-use Rattle.mum_audit.specs.declared.audited.Audited.TheVariants.{Legal, Wrong}
-use Rattle.mum_audit.specs.Controls.{after_entries, control_findings}
+use Rattle.mum_opening.specs.Opening.{document_fault, opening}
+use Rattle.mum_audit.specs.declared.audited.Audited.{Audited, TheVariants.Legal, TheVariants.Wrong}
 use Rattle.mum_audit.specs.declared.finding.Finding.{Finding}
-use Rattle.mum_audit.specs.Past.{Past, begun}
+use Rattle.mum_audit.specs.{Controls.after_entries, Controls.control_findings, Past.Past, Past.begun}
 use Rattle.mum_audit.specs.Workers.{before_workers, next_line, worker_findings}
 
 -- what an audit asks of a journal: that it can be written, and that its document has no fault
@@ -33,7 +28,7 @@ past_before journal = begun (opening journal.limits journal.config)
 abbrev pub past_of : Journal → Past
 past_of journal = after_entries (past_before journal) journal.controls
 
--- so many lines further
+-- n lines further
 unfoldable pub lines_on : ℕ → List (Option Finding) → ℕ
 lines_on line [] = line
 lines_on line (one ∷ others) = lines_on (next_line line) others
@@ -46,7 +41,8 @@ findings_of_controls journal = control_findings (past_before journal) journal.co
 unfoldable pub findings : Journal → List (Option Finding)
 findings journal =
     findings_of_controls journal
-    ++ worker_findings (past_of journal) (before_workers (lines_on (first_line journal) (findings_of_controls journal))) journal.by_worker
+    ++ worker_findings (past_of journal)
+    (before_workers (lines_on (first_line journal) (findings_of_controls journal))) journal.by_worker
 
 -- the first line with which something is wrong, where the first of these is at this line
 unfoldable pub first_wrong : ℕ → List (Option Finding) → Option (ℕ × Finding)
@@ -56,7 +52,7 @@ first_wrong line (Some finding ∷ others) = Some (line, finding)
 
 -- ---- the counts
 
--- a count that stands still at the greatest number of 64 bits
+-- a count that stays at the greatest number of 64 bits
 abbrev pub total : ℕ → ℕ
 total count = min count (2 ^ 64 - 1)
 

@@ -2,11 +2,10 @@
 use Rattle.std.specs.Prelude.{List, [], ◌∷◌, fold, Option, Some, None, if◌then◌else◌}
 use Rattle.mum_base.specs.declared.reply.Mark.{Mark}
 use Rattle.mum_record.specs.declared.journal.ControlEntry.{ControlEntry}
-use Rattle.mum_session.specs.Reply.{mark}
 use Rattle.mum_state.specs.declared.verdict.Verdict.{Verdict}
-use Rattle.mum_audit.specs.Decision.{decided}
+use Rattle.mum_session.specs.Reply.{mark}
+use Rattle.mum_audit.specs.{Decision.decided, Finding.same_verdict, Finding.verdicts_differ}
 use Rattle.mum_audit.specs.declared.finding.Finding.{Finding}
-use Rattle.mum_audit.specs.Finding.{same_verdict, verdicts_differ}
 use Rattle.mum_audit.specs.Past.{Past, after_verdict, current, next_revision, session_of}
 
 -- what is decided of an entry: the actor is the session that its connection got before

@@ -1,7 +1,6 @@
 -- The counts of the workers' entries as they are added up.
 use Rattle.std.specs.Prelude.{◌+◌, List, filter, fold, length}
-use Rattle.mum_record.specs.declared.journal.WorkerEntry.{WorkerEntry}
-use Rattle.mum_record.specs.declared.journal.WorkerEntry.TheVariants.{Voice, Closed}
+use Rattle.mum_record.specs.declared.journal.WorkerEntry.{WorkerEntry, TheVariants.Voice, TheVariants.Closed}
 use Rattle.mum_audit.specs.declared.count.Counts.{Counts}
 use Rattle.mum_audit.specs.Audit.{is_full, is_sent, total}
 

@@ -1,24 +1,18 @@
 -- What is decided of the command of a control entry.
 use Rattle.std.specs.Prelude.{ℕ, ◌==◌, ◌||◌, Bool, false, List, Option, Some, None, if◌then◌else◌}
-use Rattle.std.specs.List.{list_any}
-use Rattle.std.specs.Option.{option_map_or}
+use Rattle.std.specs.{List.list_any, Option.option_map_or}
 use Rattle.mum_base.specs.Codes.{reason_code}
 use Rattle.mum_base.specs.declared.number.SessionId.{SessionId}
-use Rattle.mum_base.specs.declared.outcome.Reason.TheVariants as reasons
 use Rattle.mum_frame.specs.Frame.{kind_of, payload_of}
 use Rattle.mum_frame.specs.declared.kind.TheConstants.{AUTHENTICATE}
-use Rattle.mum_state.specs.declared.verdict.Verdict.{Verdict}
-use Rattle.mum_state.specs.declared.verdict.Verdict.TheVariants.{Ignored}
+use Rattle.mum_state.specs.declared.verdict.Verdict.{Verdict, TheVariants.Ignored}
 use Rattle.mum_state.specs.State.{StateValue}
 use Rattle.mum_rules_tree.specs.Reasons.{is_gone, takes_no_edits}
 use Rattle.mum_rules_user.specs.declared.message.UserMessage.TheVariants.{Leave}
-use Rattle.mum_session.specs.Action.{commands_after_login}
-use Rattle.mum_session.specs.Heard.{command_heard, login_heard}
-use Rattle.mum_session.specs.Verdict.{verdict}
-use Rattle.mum_session.specs.declared.command.Asked.{Asked}
-use Rattle.mum_session.specs.declared.command.Asked.TheVariants.{User}
-use Rattle.mum_session.specs.declared.heard.Heard.{Heard}
+use Rattle.mum_session.specs.{Action.commands_after_login, Heard.command_heard, Heard.login_heard, Verdict.verdict}
+use Rattle.mum_session.specs.declared.{command.Asked.Asked, command.Asked.TheVariants.User, heard.Heard.Heard}
 use Rattle.mum_session.specs.declared.heard.Heard.TheVariants.{Message, Malformed, TooLong}
+use Rattle.mum_base.specs.declared.outcome.Reason.TheVariants as reasons
 
 -- the actor's session is gone, or sessions made as many edits as they can: nothing that is asked is taken
 abbrev pub takes_nothing : StateValue → Option SessionId → Bool

@@ -3,8 +3,7 @@ use Rattle.std.specs.Prelude.{ℕ, ◌==◌, ◌&&◌, Bool, true, false, List, 
 use Rattle.hex.specs.Hex.{encode_lower}
 use Rattle.mum_base.specs.declared.reply.Mark.{Mark}
 use Rattle.mum_base.specs.declared.reply.Mark.TheVariants.{Accepted, Lacks, Refused, Rejected, Answer, Ignored}
-use Rattle.mum_record.specs.Journal.{verdict_words}
-use Rattle.mum_record.specs.Words.{line_of_words}
+use Rattle.mum_record.specs.{Journal.verdict_words, Words.line_of_words}
 use Rattle.mum_record.specs.declared.journal.Marked.{Marked}
 use Rattle.mum_route.specs.Route.{Member}
 use Rattle.mum_audit.specs.declared.finding.Finding.{Finding}
@@ -51,7 +50,7 @@ audience_text members = line_of_words (decimal (length members) ∷ map member_w
 
 -- ---- findings
 
--- a number stands against a different one
+-- a number is not the expected one
 abbrev pub numbers_differ : ℕ → ℕ → Finding
 numbers_differ given defined = record { given = decimal given; defined = decimal defined }
 

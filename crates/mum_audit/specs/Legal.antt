@@ -2,16 +2,12 @@
 use Rattle.std.specs.Prelude.{◌≡◌, ◌≢◌, ℕ, ◌≤◌, List, length, take, Option, Some, None, Ok, AllPairs, ⊤, slice_get}
 use Rattle.std.specs.List.{All, filter_map}
 use Rattle.mum_base.specs.declared.number.SessionId.{SessionId}
-use Rattle.mum_record.specs.declared.journal.ControlEntry.{ControlEntry}
-use Rattle.mum_record.specs.declared.journal.Journal.{Journal}
-use Rattle.mum_record.specs.declared.journal.Marked.{Marked}
-use Rattle.mum_record.specs.declared.journal.WorkerEntry.{WorkerEntry}
-use Rattle.mum_record.specs.declared.journal.WorkerEntry.TheVariants.{Voice, Closed}
-use Rattle.mum_route.specs.Route.{route}
 use Rattle.mum_voice.specs.Packet.{Parts, packet}
+use Rattle.mum_record.specs.declared.journal.{ControlEntry.ControlEntry, Journal.Journal, Marked.Marked}
+use Rattle.mum_record.specs.declared.journal.WorkerEntry.{WorkerEntry, TheVariants.Voice, TheVariants.Closed}
+use Rattle.mum_route.specs.Route.{route}
 use Rattle.mum_audit.specs.Audit.{entries_of, past_before, past_of}
-use Rattle.mum_audit.specs.Controls.{after_entries, mark_on}
-use Rattle.mum_audit.specs.Finding.{members_of}
+use Rattle.mum_audit.specs.{Controls.after_entries, Controls.mark_on, Finding.members_of}
 use Rattle.mum_audit.specs.Past.{Past, session_of, state_at}
 
 -- what the entries before one of the control entries leave
@@ -45,9 +41,11 @@ IsRight past (Closed connection cause) = ⊤
 
 pub record IsLegal (journal : Journal) : Type 0 where
   -- each control entry has the verdict of the state that the accepted entries before it leave
-  pub verdicts : (i : ℕ) (entry : ControlEntry) → slice_get journal.controls i ≡ Some entry → entry.verdict ≡ mark_on (past_at journal i) entry
+  pub verdicts : (i : ℕ) (entry : ControlEntry) → slice_get journal.controls i ≡ Some entry
+      → entry.verdict ≡ mark_on (past_at journal i) entry
   -- the revisions of a worker never fall
-  pub rising : All (λ entries. AllPairs (λ earlier later. earlier ≤ later) (filter_map revision_of entries)) journal.by_worker
+  pub rising : All
+      (λ entries. AllPairs (λ earlier later. earlier ≤ later) (filter_map revision_of entries)) journal.by_worker
   -- each packet went to those who hear it
   pub heard : All (IsRight (past_of journal)) (entries_of journal)
   -- no connection has two closing entries

@@ -2,15 +2,11 @@
 use Rattle.std.specs.Prelude.{ℕ, ◌+◌, ◌==◌, List, [], ◌++◌, length, Option, nat_eq}
 use Rattle.std.specs.Map.{lookup}
 use Rattle.indexmap.specs.IndexMap.{insert_entry}
-use Rattle.mum_base.specs.declared.number.SessionId.{SessionId}
-use Rattle.mum_base.specs.declared.reply.ReplyEnd.{ReplyEnd}
+use Rattle.mum_base.specs.declared.{number.SessionId.SessionId, reply.ReplyEnd.ReplyEnd}
 use Rattle.mum_base.specs.declared.reply.ReplyEnd.TheVariants.{Joined, Decided, Rejected}
-use Rattle.mum_state.specs.declared.edit.Edit.{Edit}
-use Rattle.mum_state.specs.declared.verdict.Verdict.{Verdict}
-use Rattle.mum_state.specs.After.{at, led_to}
-use Rattle.mum_state.specs.State.{StateValue}
-use Rattle.mum_session.specs.Reply.{reply_end}
-use Rattle.mum_session.specs.Verdict.{edits_of}
+use Rattle.mum_state.specs.declared.{edit.Edit.Edit, verdict.Verdict.Verdict}
+use Rattle.mum_state.specs.{After.at, After.led_to, State.StateValue}
+use Rattle.mum_session.specs.{Reply.reply_end, Verdict.edits_of}
 
 pub record Past : Type 0 where
   -- the state before all entries

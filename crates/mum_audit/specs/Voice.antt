@@ -1,10 +1,10 @@
 -- The voice entries: the tests of one, in their order. What the control entries left is all of them.
 use Rattle.std.specs.Prelude.{ℕ, nat_lt, List, length, Option, Some, None, Result, Ok, Err, if◌then◌else◌}
 use Rattle.mum_base.specs.declared.number.SessionId.{SessionId}
-use Rattle.mum_record.specs.declared.journal.Marked.{Marked}
-use Rattle.mum_route.specs.Route.{Member, route}
 use Rattle.mum_voice.specs.declared.fault.BadVoice.{BadVoice}
 use Rattle.mum_voice.specs.Packet.{Parts, packet}
+use Rattle.mum_record.specs.declared.journal.Marked.{Marked}
+use Rattle.mum_route.specs.Route.{Member, route}
 use Rattle.mum_audit.specs.declared.finding.Finding.{Finding}
 use Rattle.mum_audit.specs.Finding.{audiences_differ, members_of, numbers_differ, packet_is_faulty, same_members}
 use Rattle.mum_audit.specs.Past.{Past, session_of, state_at}
@@ -37,7 +37,7 @@ packet_finding past connection revision packet copies (Err fault) = Some (packet
 packet_finding past connection revision packet copies (Ok parts) =
     speaker_finding past revision connection copies parts.target (session_of past connection)
 
--- the first of the tests that a voice entry does not pass, behind one of this revision
+-- the first of the tests that a voice entry does not pass, after one of this revision
 unfoldable pub voice_finding : Past → ℕ → ℕ → ℕ → List ℕ → List Marked → Option Finding
 voice_finding past least connection revision bytes copies =
     or_else (revision_finding least (length past.accepted) revision)

@@ -1,13 +1,9 @@
 -- The entries of the workers, in the order of the lines.
 use Rattle.std.specs.Prelude.{ℕ, ◌+◌, ◌-◌, ◌^◌, ◌==◌, min, List, [], ◌∷◌, ◌++◌, fold, Option, None}
-use Rattle.std.specs.Map.{lookup}
-use Rattle.std.specs.Option.{option_map}
-use Rattle.mum_record.specs.declared.journal.WorkerEntry.{WorkerEntry}
-use Rattle.mum_record.specs.declared.journal.WorkerEntry.TheVariants.{Voice, Closed}
+use Rattle.std.specs.{Map.lookup, Option.option_map}
+use Rattle.mum_record.specs.declared.journal.WorkerEntry.{WorkerEntry, TheVariants.Voice, TheVariants.Closed}
 use Rattle.mum_audit.specs.declared.finding.Finding.{Finding}
-use Rattle.mum_audit.specs.Finding.{numbers_differ}
-use Rattle.mum_audit.specs.Past.{Past}
-use Rattle.mum_audit.specs.Voice.{voice_finding}
+use Rattle.mum_audit.specs.{Finding.numbers_differ, Past.Past, Voice.voice_finding}
 
 -- the number of the line below; lines are counted up to the greatest number of 64 bits
 abbrev pub next_line : ℕ → ℕ
@@ -32,7 +28,8 @@ at_worker trail = record trail { line = next_line trail.line; least = 0 }
 
 -- below an entry
 abbrev pub after_entry : Trail → WorkerEntry → Trail
-after_entry trail (Voice connection revision packet copies) = record trail { line = next_line trail.line; least = revision }
+after_entry trail (Voice connection revision packet copies) =
+    record trail { line = next_line trail.line; least = revision }
 after_entry trail (Closed connection cause) =
     record trail { line = next_line trail.line; closed = trail.closed ++ (connection, trail.line) ∷ [] }
 

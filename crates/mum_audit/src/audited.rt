@@ -5,7 +5,7 @@ use mum_base::Text;
 /// What an audit finds.
 #[derive(Drop)]
 pub enum Audited {
-    /// No line is wrong. Each count stands still at the greatest number of 64 bits.
+    /// No line is wrong. Each count stays at the greatest number of 64 bits.
     Legal {
         /// How many control entries there are.
         controls: u64,

@@ -38,8 +38,8 @@ fn check_entry(
     Ok(Some(verdicts_differ(alloc, &entry.verdict, &defined)?))
 }
 
-/// The first wrong entry with its line, where the first entry is at this line. Where none is wrong all are
-/// taken in, and the line is that below the last.
+// The first wrong entry with its line, where the first entry is at this line. Where none is wrong all are
+// taken in, and the line is that below the last.
 pub(crate) fn check_controls(
     alloc: Global,
     past: &mut Past,
@@ -49,7 +49,8 @@ pub(crate) fn check_controls(
     requires { Each IsWritableControl entries.now }
     ensures wrong { IfOk result (λ found. found ≡ first_wrong line.old (control_findings past.old entries.now)) }
     ensures past { IfOk result (λ found. found ≡ None → past.new ≡ after_entries past.old entries.now) }
-    ensures line { IfOk result (λ found. found ≡ None → line.new ≡ lines_on line.old (control_findings past.old entries.now)) }
+    ensures line { IfOk result
+        (λ found. found ≡ None → line.new ≡ lines_on line.old (control_findings past.old entries.now)) }
 {
     for entry in entries {
         if let Some(finding) = check_entry(alloc, past, entry)? {

@@ -8,7 +8,7 @@ use crate::audited::Audited;
 use mum_base::Items;
 use mum_record::{Journal, Marked, WorkerEntry};
 
-/// Counts of the entries of the workers, each up to the greatest number of 64 bits.
+// Counts of the entries of the workers, each up to the greatest number of 64 bits.
 #[derive(Clone, Copy)]
 struct Counts {
     voices: u64,
@@ -70,7 +70,7 @@ fn counts_in(by_worker: &[Items<WorkerEntry>]) -> Counts
     sum
 }
 
-/// The counts of a journal in which no line is wrong.
+// The counts of a journal in which no line is wrong.
 pub(crate) fn counts_of(journal: &Journal) -> Audited
     ensures { result ≡ counts_of journal.now }
 {

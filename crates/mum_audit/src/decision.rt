@@ -116,8 +116,8 @@ fn decide_asked(
     decide_frame(alloc, state, actor, version, &view)
 }
 
-/// What is decided at a state of what an actor asks, where an Authenticate may have a Version number. An
-/// accepted edit fits the state.
+// What is decided at a state of what an actor asks, where an Authenticate may have a Version number. An
+// accepted edit fits the state.
 #[tactic(auto, unfolding(crate::specs::Decision::decided))]
 pub(crate) fn decided(
     alloc: Global,
@@ -127,7 +127,8 @@ pub(crate) fn decided(
     frame: Option<&[u8]>,
 ) -> Result<Verdict, OutOfMemory>
     requires { IfSome (option_copied frame) IsOneFrame }
-    ensures verdict { IfOk result (λ verdict. verdict ≡ spec.decided state.now actor version (option_copied frame.entry)) }
+    ensures verdict { IfOk result
+        (λ verdict. verdict ≡ spec.decided state.now actor version (option_copied frame.entry)) }
     ensures fits { IfOk result (FitsWhereAccepted state.now) }
 {
     if takes_nothing(state, actor) {

@@ -11,7 +11,7 @@ use mum_record::{Marked, Word, push_line, push_word};
 use mum_route::Hearer;
 use std::alloc::Global;
 
-/// What is wrong with a line.
+// What is wrong with a line.
 #[derive(Drop)]
 pub(crate) struct Finding {
     /// What it says.
@@ -121,7 +121,7 @@ fn hearers_text(alloc: Global, hearers: &[Hearer]) -> Result<Text, OutOfMemory>
     Ok(Text::from_string(text))
 }
 
-/// A number stands against a different one.
+// A number is not the expected one.
 pub(crate) fn numbers_differ(
     alloc: Global,
     given: u64,
@@ -135,7 +135,7 @@ pub(crate) fn numbers_differ(
     })
 }
 
-/// A verdict stands against a different one.
+// A verdict is not the expected one.
 pub(crate) fn verdicts_differ(
     alloc: Global,
     given: &Mark,
@@ -149,7 +149,7 @@ pub(crate) fn verdicts_differ(
     })
 }
 
-/// A packet does not parse, for the fault of this number.
+// A packet does not parse, for the fault of this number.
 pub(crate) fn packet_is_faulty(
     alloc: Global,
     packet: &[u8],
@@ -163,7 +163,7 @@ pub(crate) fn packet_is_faulty(
     })
 }
 
-/// The copies are for others than those who hear the packet.
+// The copies are for others than those who hear the packet.
 pub(crate) fn audiences_differ(
     alloc: Global,
     copies: &[Marked],

@@ -16,8 +16,8 @@ use std::alloc::Global;
 use std::marker::Brand;
 use std::sync::ledger::{Blank, Ledger};
 
-/// What the packets of all workers are routed with: a state that goes along the accepted edits, and an
-/// audience that is filled again for each packet.
+// What the packets of all workers are routed with: a state that goes along the accepted edits, and an
+// audience that is filled again for each packet.
 #[derive(Drop)]
 pub(crate) struct Hearing {
     pub view: View,
@@ -58,8 +58,8 @@ fn routed(
     counted::<Brand>(Blank::new(1), state, speaker, target, scratch, audience);
 }
 
-/// Fills the audience with those who hear what a session says to a target, in the state after the first
-/// accepted edits. Where the revisions of the calls rise, each edit is applied once.
+// Fills the audience with those who hear what a session says to a target, in the state after the first
+// accepted edits. Where the revisions of the calls rise, each edit is applied once.
 pub(crate) fn hear(
     alloc: Global,
     hearing: &mut Hearing,

@@ -105,7 +105,8 @@ fn answer(journal: &Journal, found: Option<(u64, Finding)>) -> Audited
 }
 
 /// Tests a journal line by line: its counts where each line is right, or else the first wrong line. The
-/// lines of the head are not tested.
+/// lines of the head are not tested. That out of memory is the answer only where something was allocated on the
+/// way is not proved.
 #[tactic(auto, unfolding(crate::specs::Audit::audited))]
 pub fn audit(alloc: Global, journal: &Journal) -> Result<Audited, OutOfMemory>
     requires { IsAuditable journal.now }

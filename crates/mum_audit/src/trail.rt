@@ -9,7 +9,7 @@ use mum_base::OutOfMemory;
 use std::alloc::Global;
 use std::marker::Model;
 
-/// The line that comes next, the last revision of the worker, and the line of each closing entry.
+// The line that comes next, the last revision of the worker, and the line of each closing entry.
 #[derive(Drop)]
 pub(crate) struct Trail {
     line: u64,
@@ -26,7 +26,7 @@ impl Model for Trail {
 }
 
 impl Trail {
-    /// Before the entries of the first worker.
+    // Before the entries of the first worker.
     pub(crate) fn new(alloc: Global, line: u64) -> Trail
         ensures { result ≡ before_workers line }
     {
@@ -37,28 +37,28 @@ impl Trail {
         }
     }
 
-    /// The line that comes next.
+    // The line that comes next.
     pub(crate) fn line(&self) -> u64
         ensures { result ≡ self.now.line }
     {
         self.line
     }
 
-    /// The revision of the last voice entry of the worker.
+    // The revision of the last voice entry of the worker.
     pub(crate) fn least(&self) -> u64
         ensures { result ≡ self.now.least }
     {
         self.least
     }
 
-    /// The line of the closing entry of a connection.
+    // The line of the closing entry of a connection.
     pub(crate) fn closed(&self, connection: u32) -> Option<u64>
         ensures { result ≡ closed_at self.now connection }
     {
         self.closed.get(&connection).copied()
     }
 
-    /// Goes past the line with the number of a worker.
+    // Goes past the line with the number of a worker.
     pub(crate) fn begin_worker(&mut self)
         ensures { self.new ≡ at_worker self.old }
     {
@@ -66,7 +66,7 @@ impl Trail {
         self.least = 0;
     }
 
-    /// Goes past a voice entry of this revision.
+    // Goes past a voice entry of this revision.
     pub(crate) fn pass_voice(&mut self, revision: u64)
         ensures { self.new ≡ record self.old { line = spec_next_line self.old.line; least = revision } }
     {
@@ -74,7 +74,7 @@ impl Trail {
         self.least = revision;
     }
 
-    /// Goes past the first closing entry of a connection.
+    // Goes past the first closing entry of a connection.
     pub(crate) fn pass_closing(&mut self, connection: u32) -> Result<(), OutOfMemory>
         requires { closed_at self.old connection ≡ None }
         ensures { OnOk result (self.new ≡ record self.old {

@@ -18,7 +18,7 @@ use mum_route::Hearer;
 use mum_voice::Packet;
 use std::alloc::Global;
 
-/// A voice entry.
+// A voice entry.
 #[derive(Clone, Copy)]
 pub(crate) struct VoiceEntry<'a> {
     pub connection: u32,
@@ -131,7 +131,8 @@ fn check_packet(
     requires accepted { entry.now.revision ≤ length past.now.accepted }
     ensures view { IsViewOf past.now.opening past.now.accepted hearing.new.view }
     ensures finding { IfOk result (λ found. found
-        ≡ packet_finding past.now entry.now.connection entry.now.revision entry.now.packet.now entry.now.copies.now (packet entry.now.packet.now)) }
+        ≡ packet_finding past.now entry.now.connection entry.now.revision entry.now.packet.now entry.now.copies.now
+        (packet entry.now.packet.now)) }
 {
     match Packet::parse(entry.packet) {
         Ok(packet) => check_speaker(alloc, past, hearing, entry, packet.target),
@@ -139,7 +140,7 @@ fn check_packet(
     }
 }
 
-/// What is wrong with a voice entry, where the revision before it is this one.
+// What is wrong with a voice entry, where the revision before it is this one.
 #[tactic(auto, unfolding(crate::specs::Voice::voice_finding))]
 pub(crate) fn check_voice(
     alloc: Global,

@@ -108,7 +108,7 @@ fn check_entries(
     Ok(None)
 }
 
-/// The first wrong line of the workers with its number, where the trail is before the line of the first.
+// The first wrong line of the workers with its number, where the trail is before the line of the first.
 pub(crate) fn check_workers(
     alloc: Global,
     past: &Past,

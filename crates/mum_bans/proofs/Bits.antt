@@ -1,10 +1,5 @@
 -- The first bits of two addresses, compared byte for byte.
-use Rattle.std.proofs.Common.{◌≡◌, ℕ, zero, suc, ◌+◌, ◌-◌, ◌*◌, ◌/◌, ◌%◌, ◌^◌, ◌<◌, ◌≤◌, Bool, true, false, ◌&&◌, ◌↔◌, IsTrue, List, ◌∷◌, take, get_or, nat_eq, bytes_eq, Fits, w8, refl, sym, ap, ap₂, subst, ◌∙◌, inl, inr, div-add-mod', div-one, shr-shr, arith}
-use Rattle.std.proofs.lemmas.Bool.{cases_eq, eq-eqb, ne_eqb}
-use Rattle.std.proofs.lemmas.Slice.Eq.{bytes_eq-Decides}
-use Rattle.std.specs.Int.{bit_at}
-use Rattle.mum_bans.specs.declared.ban.Ban.{Ban}
-use Rattle.mum_bans.specs.Ban.{address_bits, covers}
+use Rattle.mum_bans.proofs.Common.{◌≡◌, ℕ, zero, suc, ◌+◌, ◌-◌, ◌*◌, ◌/◌, ◌%◌, ◌^◌, ◌<◌, ◌≤◌, Bool, true, false, ◌&&◌, ◌↔◌, IsTrue, List, ◌∷◌, take, get_or, nat_eq, bytes_eq, Fits, w8, refl, sym, ap, ap₂, subst, ◌∙◌, inl, inr, div-add-mod', div-one, shr-shr, arith, cases_eq, eq-eqb, ne_eqb, bytes_eq-Decides, bit_at, Ban, address_bits, covers}
 
 and_true : (b : Bool) → (b && true) ≡ b
 and_true true = refl
@@ -77,7 +72,7 @@ alike_within (suc (suc (suc (suc (suc (suc (suc (suc n)))))))) x y xs ys x_is y_
 whole_byte : (n x y : ℕ) (xs ys : List ℕ) → x < 256 → y < 256 → (nat_eq x y && bytes_eq (take n (address_bits xs)) (take n (address_bits ys))) ≡ bytes_eq (take (suc (suc (suc (suc (suc (suc (suc (suc n)))))))) (address_bits (x ∷ xs))) (take (suc (suc (suc (suc (suc (suc (suc (suc n)))))))) (address_bits (y ∷ ys)))
 whole_byte n x y xs ys x_is y_is = sym (top8 x y (bytes_eq (take n (address_bits xs)) (take n (address_bits ys))) x_is y_is)
 
--- a whole byte, and those behind it
+-- a whole byte, and those after it
 pub alike_past : (bits x y : ℕ) (xs ys : List ℕ) → x < 256 → y < 256 → 8 ≤ bits → (nat_eq x y && bytes_eq (take (bits - 8) (address_bits xs)) (take (bits - 8) (address_bits ys))) ≡ bytes_eq (take bits (address_bits (x ∷ xs))) (take bits (address_bits (y ∷ ys)))
 alike_past bits x y xs ys x_is y_is low =
     let is : suc (suc (suc (suc (suc (suc (suc (suc (bits - 8)))))))) ≡ bits = omega arith in

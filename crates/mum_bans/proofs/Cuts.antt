@@ -1,8 +1,5 @@
 -- The longest front of a text.
-use Rattle.std.proofs.Common.{◌≡◌, ℕ, ◌≤◌, ◌<◌, List, ◌++◌, length, take, drop, inl, inr, refl, sym, ap, subst, ◌∙◌, take_at, IsUtf8, IsCharBoundary, length-append, length-take, take-append-drop, le_antisymm, arith}
-use Rattle.std.proofs.lemmas.Bool.{cases_lt}
-use Rattle.std.proofs.lemmas.Str.{IsUtf8-take, IsCharBoundary-from_take}
-use Rattle.mum_bans.specs.Cut.{IsFront, IsCut}
+use Rattle.mum_bans.proofs.Common.{◌≡◌, ℕ, ◌≤◌, ◌<◌, List, ◌++◌, length, take, drop, inl, inr, refl, sym, ap, subst, ◌∙◌, take_at, IsUtf8, IsCharBoundary, length-append, length-take, take-append-drop, le_antisymm, arith, cases_lt, IsUtf8-take, IsCharBoundary-from_take, IsFront, IsCut}
 
 -- a front is the text up to its length
 front_is : (text front : List ℕ) → (is : IsFront text front) → take (length front) text ≡ front

@@ -1,8 +1,5 @@
 -- A book after many calls.
-use Rattle.std.proofs.Common.{◌≡◌, List, [], ◌∷◌, ◌++◌, fold, Option, Some, None, refl, sym, ap, ◌∙◌}
-use Rattle.std.proofs.lemmas.List.Sums.{fold-append}
-use Rattle.mum_bans.specs.declared.ban.Ban.{Ban}
-use Rattle.mum_bans.specs.Book.{Event, Call, AreCalls, after, after_call, bans_after, bans_of, events_of, with_event}
+use Rattle.mum_bans.proofs.Common.{◌≡◌, List, [], ◌∷◌, ◌++◌, fold, Option, Some, None, refl, sym, ap, ◌∙◌, fold-append, Ban, Event, Call, AreCalls, after, after_call, bans_after, bans_of, events_of, with_event}
 
 one_event : (bans : List Ban) (event : Option Event) (events : List Event) → fold after bans (with_event event events) ≡ fold after (after_call bans event) events
 one_event bans None events = refl

@@ -1,3 +1,5 @@
+mod Common
+pub mod Public
 pub mod Bits
 pub mod Cuts
 pub mod Folds

@@ -1,9 +1,5 @@
 -- Lists that are read or made from the front.
-use Rattle.std.proofs.Common.{◌≡◌, ℕ, ◌+◌, ◌<◌, Bool, true, List, [], ◌∷◌, ◌++◌, length, map, take, get_or, sym, ap, ◌∙◌}
-use Rattle.std.specs.List.{list_all}
-use Rattle.std.proofs.lemmas.Bool.{true_from_ne_false, both_ways}
-use Rattle.std.proofs.lemmas.List.{get_or_default, map-append, take_more}
-use Rattle.std.proofs.lemmas.List.Folds.{list_all_at}
+use Rattle.mum_bans.proofs.Common.{◌≡◌, ℕ, ◌+◌, ◌<◌, Bool, true, List, [], ◌∷◌, ◌++◌, length, map, take, get_or, sym, ap, ◌∙◌, list_all, true_from_ne_false, both_ways, get_or_default, map-append, take_more, list_all_at}
 
 taken : {X : Type 0} (xs : List X) (i : ℕ) (x : X) → i < length xs → x ≡ get_or xs i x → take i xs ++ x ∷ [] ≡ take (i + 1) xs
 taken {X} xs i x within is = ap (λ (y : X). take i xs ++ y ∷ []) is ∙ sym (take_more xs i x within)

@@ -1,16 +1,6 @@
 -- What a survey and a decoded message say of the list in a payload.
-use Rattle.std.proofs.Common.{◌≡◌, ℕ, Bool, true, false, List, Result, Ok, Err, is_ok, refl, ap, ◌∙◌}
-use Rattle.mum_fields.specs.declared.message.MessageFault.{MessageFault}
-use Rattle.mum_fields.specs.Table.{Values, layout, parts, decoded}
-use Rattle.mum_fields.specs.Survey.{spelled_size, surveyed}
-use Rattle.mum_bans.specs.declared.ban.Ban.{Ban}
-use Rattle.mum_bans.specs.declared.ban_list.BanList.{BanList}
-use Rattle.mum_bans.specs.declared.verdict.BanVerdict.{BanVerdict}
+use Rattle.mum_bans.proofs.Common.{◌≡◌, ℕ, Bool, true, false, List, Result, Ok, Err, is_ok, refl, ap, ◌∙◌, MessageFault, Values, layout, parts, decoded, spelled_size, surveyed, Ban, BanList, BanVerdict, ban_list, ban_list_back, list_of, list_in, after_call, verdict_of, event_of}
 use Rattle.mum_bans.specs.declared.verdict.BanVerdict.TheVariants as verdicts
-use Rattle.mum_bans.specs.Messages.{ban_list}
-use Rattle.mum_bans.specs.Parts.{ban_list_back, list_of, list_in}
-use Rattle.mum_bans.specs.Book.{after_call}
-use Rattle.mum_bans.specs.Verdict.{verdict_of, event_of}
 
 both_whole : (r : Result (Values (layout ban_list)) MessageFault) → is_ok (spelled_size (layout ban_list) r) ≡ is_ok (list_of r)
 both_whole (Ok values) = refl

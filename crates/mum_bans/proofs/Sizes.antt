@@ -1,17 +1,5 @@
 -- How long the payload is that shows a book.
-use Rattle.std.proofs.Common.{◌≡◌, ℕ, ◌+◌, ◌*◌, ◌≤◌, true, ◌&&◌, ◌==◌, nat_le, List, [], ◌∷◌, ◌++◌, length, map, Some, ap, ◌∙◌, length-append, append-nil, arith}
-use Rattle.std.specs.List.{list_all}
-use Rattle.std.proofs.lemmas.Bool.{and_parts, eqb-true, leb-true}
-use Rattle.std.proofs.lemmas.List.Concat.{flat_map-append}
-use Rattle.mum_fields.specs.Varint.{shortest}
-use Rattle.mum_fields.specs.Written.{Item, written, spelling, block_item, varint_item, block_items, number_items}
-use Rattle.mum_fields.specs.Table.{layout, parts, items, each_message}
-use Rattle.mum_fields.proofs.Sizes.{length-shortest}
-use Rattle.mum_frame.specs.declared.frame.TheConstants.{PAYLOAD_LIMIT}
-use Rattle.mum_bans.specs.declared.ban.Ban.{Ban}
-use Rattle.mum_bans.specs.Messages.{ban_entry}
-use Rattle.mum_bans.specs.Limits.{is_short, is_sound_ban, is_sound_book}
-use Rattle.mum_bans.specs.Answer.{answer, entry_of, unless_empty}
+use Rattle.mum_bans.proofs.Common.{◌≡◌, ℕ, ◌+◌, ◌*◌, ◌≤◌, true, ◌&&◌, ◌==◌, nat_le, List, [], ◌∷◌, ◌++◌, length, map, Some, ap, ◌∙◌, length-append, append-nil, arith, list_all, and_parts, eqb-true, leb-true, flat_map-append, shortest, Item, written, spelling, block_item, varint_item, block_items, number_items, layout, parts, items, each_message, length-shortest, PAYLOAD_LIMIT, Ban, ban_entry, is_short, is_sound_ban, is_sound_book, answer, entry_of, unless_empty}
 
 -- a number takes at most two varints, and a block two before it
 number_length : (k n : ℕ) → length (spelling (varint_item k n)) ≤ 20
@@ -32,7 +20,7 @@ block_length k block =
 one_written : (item : Item) → length (written (item ∷ [])) ≡ length (spelling item)
 one_written item = ap (λ (bytes : List ℕ). length bytes) (append-nil (spelling item))
 
--- items behind items
+-- items after items
 both_written : (xs ys : List Item) (m n : ℕ) → length (written xs) ≤ m → length (written ys) ≤ n → length (written (xs ++ ys)) ≤ m + n
 both_written xs ys m n first second =
     let e : length (written (xs ++ ys)) ≡ length (written xs) + length (written ys) = ap (λ (bytes : List ℕ). length bytes) (flat_map-append spelling xs ys) ∙ length-append (written xs) (written ys) in

@@ -1,14 +1,5 @@
 -- Each event leaves a book within its limits.
-use Rattle.std.proofs.Common.{◌≡◌, ℕ, zero, suc, ◌-◌, ◌<◌, ◌≤◌, Bool, true, ◌&&◌, ◌==◌, nat_le, List, [], ◌∷◌, ◌++◌, length, map, drop, remove, refl, ap, ap₂, ◌∙◌, length-drop, arith}
-use Rattle.std.specs.List.{list_all}
-use Rattle.std.proofs.lemmas.Bool.{and_parts, and_from, eq-eqb, le-leb}
-use Rattle.std.proofs.lemmas.List.{length-map}
-use Rattle.std.proofs.lemmas.List.Folds.{list_all-append, list_all-map}
-use Rattle.mum_bans.specs.declared.ban.Ban.{Ban}
-use Rattle.mum_bans.specs.declared.ban_entry.BanEntry.{BanEntry}
-use Rattle.mum_bans.specs.declared.ban_list.BanList.{BanList}
-use Rattle.mum_bans.specs.Limits.{is_short, is_sound_ban, is_sound_book, is_sound_entry, is_sound_list}
-use Rattle.mum_bans.specs.Book.{added_ban, last_bans, set_ban}
+use Rattle.mum_bans.proofs.Common.{◌≡◌, ℕ, zero, suc, ◌-◌, ◌<◌, ◌≤◌, Bool, true, ◌&&◌, ◌==◌, nat_le, List, [], ◌∷◌, ◌++◌, length, map, drop, remove, refl, ap, ap₂, ◌∙◌, length-drop, arith, list_all, and_parts, and_from, eq-eqb, le-leb, length-map, list_all-append, list_all-map, Ban, BanEntry, BanList, is_short, is_sound_ban, is_sound_book, is_sound_entry, is_sound_list, added_ban, last_bans, set_ban}
 
 each_sound : (bans : List Ban) (moment : ℕ) (entries : List BanEntry) → list_all is_sound_ban (map (set_ban bans moment) entries) ≡ list_all is_sound_entry entries
 each_sound bans moment entries = list_all-map is_sound_ban (set_ban bans moment) entries

@@ -1,18 +1,6 @@
 -- Bans worked out by hand.
-use Rattle.std.proofs.Common.{◌≡◌, ℕ, List, [], ◌∷◌, ◌++◌, codes, true, false, Some, None, refl}
-use Rattle.mum_base.proofs.Hex.{hex}
-use Rattle.mum_fields.specs.Table.{decoded}
-use Rattle.mum_fields.proofs.Worked.{messages, IsSpelled, IsRespelled, misses}
-use Rattle.mum_bans.specs.declared.ban.Ban.{Ban}
-use Rattle.mum_bans.specs.declared.ban_entry.BanEntry.{BanEntry}
-use Rattle.mum_bans.specs.declared.ban_list.BanList.{BanList}
-use Rattle.mum_bans.specs.declared.verdict.BanVerdict.{BanVerdict}
+use Rattle.mum_bans.proofs.Common.{◌≡◌, ℕ, List, [], ◌∷◌, ◌++◌, codes, true, false, Some, None, refl, hex, decoded, messages, IsSpelled, IsRespelled, misses, Ban, BanEntry, BanList, BanVerdict, refuses, after_call, ban_list, list_in, ban_entry_of, ban_list_of, ban_list_with, verdict_of, event_of}
 use Rattle.mum_bans.specs.declared.verdict.BanVerdict.TheVariants as verdicts
-use Rattle.mum_bans.specs.Ban.{refuses}
-use Rattle.mum_bans.specs.Book.{after_call}
-use Rattle.mum_bans.specs.Messages.{ban_list}
-use Rattle.mum_bans.specs.Parts.{list_in, ban_entry_of, ban_list_of, ban_list_with}
-use Rattle.mum_bans.specs.Verdict.{verdict_of, event_of}
 
 -- an address of IPv4
 abbrev ipv4 : List ℕ → List ℕ

@@ -1,9 +1,7 @@
 -- The BanList that shows a book.
 use Rattle.std.specs.Prelude.{ℕ, List, [], ◌∷◌, map, Option, Some, None}
 use Rattle.mum_fields.specs.Table.{spelled}
-use Rattle.mum_bans.specs.declared.ban.Ban.{Ban}
-use Rattle.mum_bans.specs.declared.ban_entry.BanEntry.{BanEntry}
-use Rattle.mum_bans.specs.declared.ban_list.BanList.{BanList}
+use Rattle.mum_bans.specs.declared.{ban.Ban.Ban, ban_entry.BanEntry.BanEntry, ban_list.BanList.BanList}
 use Rattle.mum_bans.specs.Messages.{ban_list}
 
 -- a text that has a byte

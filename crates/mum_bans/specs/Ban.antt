@@ -1,12 +1,13 @@
 -- A ban: which addresses it covers, and when it is living.
 use Rattle.std.specs.Prelude.{ℕ, ◌+◌, ◌==◌, ◌&&◌, ◌||◌, Bool, List, [], ◌∷◌, take, nat_lt, bytes_eq, flat_map}
-use Rattle.std.specs.List.{list_any}
-use Rattle.std.specs.Int.{bit_at}
+use Rattle.std.specs.{List.list_any, Int.bit_at}
 use Rattle.mum_bans.specs.declared.ban.Ban.{Ban}
 
 -- the bits of a byte, the highest first
 abbrev pub byte_bits : ℕ → List ℕ
-byte_bits byte = bit_at byte 7 ∷ bit_at byte 6 ∷ bit_at byte 5 ∷ bit_at byte 4 ∷ bit_at byte 3 ∷ bit_at byte 2 ∷ bit_at byte 1 ∷ bit_at byte 0 ∷ []
+byte_bits byte =
+    bit_at byte 7 ∷ bit_at byte 6 ∷ bit_at byte 5 ∷ bit_at byte 4 ∷ bit_at byte 3 ∷ bit_at byte 2 ∷ bit_at byte 1
+    ∷ bit_at byte 0 ∷ []
 
 -- the bits of an address, from its first byte on
 abbrev pub address_bits : List ℕ → List ℕ

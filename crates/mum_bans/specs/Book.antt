@@ -1,10 +1,8 @@
 -- The bans of a book after what happened to it.
 use Rattle.std.specs.Prelude.{◌≡◌, ℕ, ◌-◌, List, [], ◌∷◌, ◌++◌, length, map, fold, drop, Option, Some, None, unwrap_or, if◌then◌else◌}
-use Rattle.mum_bans.specs.declared.ban.Ban.{Ban}
-use Rattle.mum_bans.specs.declared.ban_entry.BanEntry.{BanEntry}
+use Rattle.mum_bans.specs.declared.{ban.Ban.Ban, ban_entry.BanEntry.BanEntry}
 use Rattle.mum_bans.specs.declared.limits.TheConstants.{BAN_LIMIT, MASK_LIMIT}
-use Rattle.mum_bans.specs.Ban.{is_same}
-use Rattle.mum_bans.specs.Cut.{IsCut}
+use Rattle.mum_bans.specs.{Ban.is_same, Cut.IsCut}
 
 -- What happens to a book: its bans are set to these entries at this moment, or one ban is added, of this address, for
 -- this reason, at this moment.
@@ -83,7 +81,7 @@ with_added book address moment = record {
   reserved = None;
 }
 
--- ---- many calls, one behind the other
+-- ---- many calls, one after the other
 
 -- a call: the event that it is, if it is one, and the bans after it
 pub record Call : Type 0 where

@@ -2,8 +2,7 @@
 -- number against it.
 use Rattle.std.specs.Prelude.{[], ◌∷◌}
 use Rattle.mum_fields.specs.Table.{Table, optional, required, repeated_message, uint32, bool, string, bytes}
-use Rattle.mum_bans.specs.declared.ban_entry.BanEntry.{BanEntry}
-use Rattle.mum_bans.specs.declared.ban_list.BanList.{BanList}
+use Rattle.mum_bans.specs.declared.{ban_entry.BanEntry.BanEntry, ban_list.BanList.BanList}
 
 -- BanList.BanEntry. The field `start`, number 6, is passed over as one that is not known.
 abbrev pub ban_entry : Table BanEntry

@@ -1,11 +1,10 @@
--- A message is told by its parts: each table has a row for each field of the struct.
-use Rattle.std.specs.Prelude.{◌≡◌, ℕ, List, [], ◌∷◌, map, Result, Ok, Err}
+-- A message is described by its parts: each table has a row for each field of the struct.
 use Rattle.std.proofs.Common.{ap, ◌∙◌, refl}
+use Rattle.std.specs.Prelude.{◌≡◌, ℕ, List, [], ◌∷◌, map, Result, Ok, Err}
+use Rattle.mum_fields.proofs.Public.{messages-same}
 use Rattle.mum_fields.specs.declared.message.MessageFault.{MessageFault}
 use Rattle.mum_fields.specs.Table.{Values, layout, parts, decoded}
-use Rattle.mum_fields.proofs.Puts.{messages-same}
-use Rattle.mum_bans.specs.declared.ban_entry.BanEntry.{BanEntry}
-use Rattle.mum_bans.specs.declared.ban_list.BanList.{BanList}
+use Rattle.mum_bans.specs.declared.{ban_entry.BanEntry.BanEntry, ban_list.BanList.BanList}
 use Rattle.mum_bans.specs.Messages.{ban_entry, ban_list}
 
 -- the entry that has these values

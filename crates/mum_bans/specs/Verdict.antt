@@ -1,14 +1,10 @@
 -- What a BanList comes to.
 use Rattle.std.specs.Prelude.{ℕ, ◌≤◌, Bool, false, List, length, Option, Some, None, Result, Ok, Err, unwrap_or, if◌then◌else◌}
-use Rattle.mum_fields.specs.declared.message.MessageFault.{MessageFault}
 use Rattle.mum_frame.specs.declared.frame.TheConstants.{PAYLOAD_LIMIT}
-use Rattle.mum_bans.specs.declared.ban.Ban.{Ban}
-use Rattle.mum_bans.specs.declared.ban_list.BanList.{BanList}
-use Rattle.mum_bans.specs.declared.verdict.BanVerdict.{BanVerdict}
+use Rattle.mum_fields.specs.declared.message.MessageFault.{MessageFault}
+use Rattle.mum_bans.specs.declared.{ban.Ban.Ban, ban_list.BanList.BanList, verdict.BanVerdict.BanVerdict}
+use Rattle.mum_bans.specs.{Limits.is_sound_list, Book.Event, Book.Sets, Answer.answer}
 use Rattle.mum_bans.specs.declared.verdict.BanVerdict.TheVariants as verdicts
-use Rattle.mum_bans.specs.Limits.{is_sound_list}
-use Rattle.mum_bans.specs.Book.{Event, Sets}
-use Rattle.mum_bans.specs.Answer.{answer}
 
 -- of a list from somebody who may ban
 abbrev pub verdict_of_list : List Ban → BanList → BanVerdict

@@ -52,7 +52,7 @@ impl Ban {
     }
 }
 
-// Whether so many bits are equal, from the highest bit of the first byte on.
+// Whether n bits are equal, from the highest bit of the first byte on.
 fn begin_alike(bits: u8, ours: &[u8], theirs: &[u8]) -> bool
     requires { length ours.now ≡ length theirs.now }
     ensures { result ≡ bytes_eq (take bits (address_bits ours.now)) (take bits (address_bits theirs.now)) }

@@ -10,7 +10,7 @@ ghost use Rattle.mum_bans.specs.Cut.{IsCut};
 ghost use Rattle.mum_bans.specs.Limits.{is_sound_book};
 ghost use Rattle.mum_frame.specs.declared.frame.TheConstants.{PAYLOAD_LIMIT};
 
-/// Whatever calls are made of a book that began empty, one behind the other, its bans are those after the events
+/// Whatever calls are made of a book that began empty, one after the other, its bans are those after the events
 /// among them.
 pub fn books_are_folds()
     ensures calls { (calls : List Call) → AreCalls [] calls →

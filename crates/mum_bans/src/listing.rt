@@ -47,7 +47,7 @@ fn list_of(alloc: Global, bans: &[Ban]) -> Result<BanList, OutOfMemory>
     })
 }
 
-/// The payload of the BanList that has these bans. Texts are shared with them, not copied.
+// The payload of the BanList that has these bans. Texts are shared with them, not copied.
 pub(crate) fn answer(alloc: Global, bans: &[Ban]) -> Result<Octets, OutOfMemory>
     ensures { IfOk result (λ payload. payload ≡ answer bans.now) }
 {

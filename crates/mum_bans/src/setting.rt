@@ -59,8 +59,8 @@ fn set_ban(alloc: Global, bans: &[Ban], entry: &BanEntry, moment: u64) -> Result
     Ok(ban)
 }
 
-/// The bans that these entries ask for, with room for one more. Texts are shared with the entries, not copied.
-/// Each entry is compared with each present ban.
+// The bans that these entries ask for, with room for one more. Texts are shared with the entries, not copied.
+// Each entry is compared with each present ban.
 pub(crate) fn set_bans(
     alloc: Global,
     bans: &[Ban],

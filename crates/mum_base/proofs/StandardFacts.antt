@@ -1,12 +1,8 @@
 -- Worked values of names, texts, permissions (as the Murmur manual numbers them) and numbers, so that a wrong rule
 -- in the specs does not check.
 use Rattle.std.proofs.Common.{◌≡◌, ℕ, List, [], ◌∷◌, codes, replicate, flat_map, fold, Some, None, refl, arith, bit_or}
-use Rattle.mum_base.specs.declared.name.NameFault.TheVariants.{Empty, TooLong, ControlCharacter, EdgeSpace}
-use Rattle.mum_base.specs.declared.number.TheConstants.{ChannelId.ROOT, AccountId.SUPER_USER}
-use Rattle.mum_base.specs.declared.perm.Perm.{Perm}
-use Rattle.mum_base.specs.declared.perm.TheConstants.{Perm.NONE, Perm.WRITE, Perm.TRAVERSE, Perm.ENTER, Perm.SPEAK, Perm.MUTE_DEAFEN, Perm.MOVE, Perm.MAKE_CHANNEL, Perm.LINK_CHANNEL, Perm.WHISPER, Perm.TEXT_MESSAGE, Perm.MAKE_TEMP_CHANNEL, Perm.LISTEN, Perm.KICK, Perm.BAN, Perm.REGISTER, Perm.SELF_REGISTER, Perm.RESET_USER_CONTENT, Perm.ALL, Perm.ROOT_ONLY, Perm.START, Perm.BY_WRITE}
-use Rattle.mum_base.specs.Name.{name_fault, text_fault}
-use Rattle.mum_base.specs.Perm.{Holds, without_bits}
+use Rattle.mum_base.specs.declared.{name.NameFault.TheVariants.Empty, name.NameFault.TheVariants.TooLong, name.NameFault.TheVariants.ControlCharacter, name.NameFault.TheVariants.EdgeSpace, number.TheConstants.ChannelId.ROOT, number.TheConstants.AccountId.SUPER_USER, perm.Perm.Perm, perm.TheConstants.Perm.NONE, perm.TheConstants.Perm.WRITE, perm.TheConstants.Perm.TRAVERSE, perm.TheConstants.Perm.ENTER, perm.TheConstants.Perm.SPEAK, perm.TheConstants.Perm.MUTE_DEAFEN, perm.TheConstants.Perm.MOVE, perm.TheConstants.Perm.MAKE_CHANNEL, perm.TheConstants.Perm.LINK_CHANNEL, perm.TheConstants.Perm.WHISPER, perm.TheConstants.Perm.TEXT_MESSAGE, perm.TheConstants.Perm.MAKE_TEMP_CHANNEL, perm.TheConstants.Perm.LISTEN, perm.TheConstants.Perm.KICK, perm.TheConstants.Perm.BAN, perm.TheConstants.Perm.REGISTER, perm.TheConstants.Perm.SELF_REGISTER, perm.TheConstants.Perm.RESET_USER_CONTENT, perm.TheConstants.Perm.ALL, perm.TheConstants.Perm.ROOT_ONLY, perm.TheConstants.Perm.START, perm.TheConstants.Perm.BY_WRITE}
+use Rattle.mum_base.specs.{Name.name_fault, Name.text_fault, Perm.Holds, Perm.without_bits}
 use Rattle.mum_base.proofs.Hex.{hex}
 
 -- ---- names and texts

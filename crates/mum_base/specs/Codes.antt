@@ -1,10 +1,8 @@
 -- The numbers under which reasons to ignore a command, denials and rejections are reported.
 use Rattle.std.specs.Prelude.{ℕ}
-use Rattle.mum_base.specs.declared.outcome.Reason.{Reason}
+use Rattle.mum_base.specs.declared.outcome.{Reason.Reason, DenyType.DenyType, RejectType.RejectType}
 use Rattle.mum_base.specs.declared.outcome.Reason.TheVariants.{NotRead, Malformed, NotLoggedIn, NotThere, OfAnother, EmptyText, TooLong, Gone}
-use Rattle.mum_base.specs.declared.outcome.DenyType.{DenyType}
 use Rattle.mum_base.specs.declared.outcome.DenyType.TheVariants.{Text, Permission, SuperUser, ChannelName, TextTooLong, TemporaryChannel, ChannelFull, NestingLimit, ChannelCountLimit, ChannelListenerLimit, UserListenerLimit}
-use Rattle.mum_base.specs.declared.outcome.RejectType.{RejectType}
 use Rattle.mum_base.specs.declared.outcome.RejectType.TheVariants.{WrongVersion, InvalidUsername, WrongUserPW, WrongServerPW, UsernameInUse, ServerFull}
 
 -- 1 and 2 are for frames that are no command

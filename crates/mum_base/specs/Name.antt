@@ -1,8 +1,7 @@
 -- Which names and texts are refused, and for what.
 use Rattle.std.specs.Prelude.{ℕ, ◌-◌, ◌||◌, ◌==◌, Bool, List, length, Option, Some, None, nat_lt, slice_index, if◌then◌else◌}
 use Rattle.std.specs.List.{list_any}
-use Rattle.mum_base.specs.declared.name.TheConstants.{NAME_LIMIT, TEXT_LIMIT}
-use Rattle.mum_base.specs.declared.name.NameFault.{NameFault}
+use Rattle.mum_base.specs.declared.name.{TheConstants.NAME_LIMIT, TheConstants.TEXT_LIMIT, NameFault.NameFault}
 use Rattle.mum_base.specs.declared.name.NameFault.TheVariants.{Empty, TooLong, ControlCharacter, EdgeSpace}
 
 -- the number by which a cause is written
@@ -20,7 +19,7 @@ is_control_byte byte = nat_lt byte 32 || (byte == 127)
 abbrev pub has_space_at_edge : List ℕ → Bool
 has_space_at_edge name = (slice_index name 0 == 32) || (slice_index name (length name - 1) == 32)
 
--- the first cause that stands, in this order
+-- the first cause that applies, in this order
 abbrev pub name_fault : List ℕ → Option NameFault
 name_fault name =
     if length name == 0 then Some Empty

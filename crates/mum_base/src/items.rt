@@ -11,7 +11,7 @@ use std::sync::{ArcSlice, ArcStr};
 /// Memory ran out. It is the one answer that no clause ties to a cause.
 pub type OutOfMemory = AllocError;
 
-/// How bytes lie in memory: by themselves, or once for all who share them.
+// How bytes lie in memory: by themselves, or once for all who share them.
 #[derive(Debug, Drop)]
 enum Bytes {
     Own(Vec<u8>),
@@ -88,7 +88,7 @@ impl Octets {
     }
 }
 
-/// How a text lies in memory: by itself, or once for all who share it.
+// How a text lies in memory: by itself, or once for all who share it.
 #[derive(Debug, Drop)]
 enum Holding {
     Own(String),

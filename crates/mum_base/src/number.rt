@@ -70,6 +70,6 @@ pub enum Cause {
     Kicked,
     /// A box of the session was full.
     Lagged,
-    /// Memory ran out. This cause stands in journals alone.
+    /// Memory ran out. This cause occurs in journals alone.
     Memory,
 }

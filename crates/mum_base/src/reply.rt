@@ -6,7 +6,7 @@ use crate::perm::Perm;
 /// How the wait for a reply ends.
 #[derive(Clone, Copy, Debug, PartialEq, Eq)]
 pub enum ReplyEnd {
-    /// A login was accepted: this session stands in this slot.
+    /// A login was accepted: this session is in this slot.
     Joined(SessionId, Slot),
     /// The command was decided.
     Decided,

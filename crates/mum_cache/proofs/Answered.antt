@@ -1,33 +1,6 @@
 -- An answer about a permission, and what is kept with it.
-use Rattle.std.proofs.Common.{◌≡◌, ℕ, zero, suc, ◌+◌, ◌*◌, ◌<◌, ◌≤◌, Bool, true, false, cond, List, [], ◌∷◌, length, get_or, is_some, set, slice_get, refl, sym, ap, subst, ◌∙◌, arith, Option, Some, inl, inr}
-use Rattle.std.specs.Prelude.{◌==◌, ◌&&◌}
-use Rattle.std.specs.Option.{option_map}
-use Rattle.std.proofs.lemmas.Bool.{and_parts, cases_eq, eq-eqb, eqb-true}
-use Rattle.std.proofs.lemmas.List.{get_or-set_other, get_or-set_same}
-use Rattle.std.proofs.lemmas.Option.{same_Some, slice_get-get_or}
-use Rattle.mum_base.specs.declared.number.ChannelId.{ChannelId}
-use Rattle.mum_base.specs.declared.number.SessionId.{SessionId}
-use Rattle.mum_base.specs.declared.number.Slot.{Slot}
-use Rattle.mum_base.specs.declared.perm.Perm.{Perm}
-use Rattle.mum_tree.specs.Rows.{row_of}
-use Rattle.mum_tree.proofs.Start.{root_row}
-use Rattle.mum_tree.specs.declared.channel.Row.{Row}
-use Rattle.mum_users.specs.declared.user.User.{User}
-use Rattle.mum_users.specs.Sessions.{session_of}
-use Rattle.mum_state.specs.Permissions.{perm_of, visits_of}
-use Rattle.mum_state.specs.Proper.{IsProper}
-use Rattle.mum_state.specs.State.{StateValue}
-use Rattle.mum_state.proofs.Each.{shown}
-use Rattle.mum_state.proofs.Seats.{session_known}
-use Rattle.mum_route.proofs.Known.{place_within, row_at}
-use Rattle.mum_route.proofs.Slots.{slot_below}
-use Rattle.mum_cache.specs.declared.perms.Key.{Key}
-use Rattle.mum_cache.specs.declared.perms.PermEntry.{PermEntry}
-use Rattle.mum_cache.specs.Keys.{IsKey, answers_key}
-use Rattle.mum_cache.specs.Perms.{ArePermsSound, PermSound, PermStands, answers, index_of, kept_at, no_perm, perm_at, perm_entry, perm_index, visits_at}
-use Rattle.mum_cache.specs.Places.{count_of, place_of, slot_of}
-use Rattle.mum_cache.proofs.Others.{is_placed, is_seated, place_is, slot_at, slot_is}
-use Rattle.mum_cache.proofs.Staying.{one_of}
+use Rattle.mum_cache.proofs.Common.{◌≡◌, ℕ, zero, suc, ◌+◌, ◌*◌, ◌<◌, ◌≤◌, Bool, true, false, cond, List, [], ◌∷◌, length, get_or, is_some, set, slice_get, refl, sym, ap, subst, ◌∙◌, arith, Option, Some, inl, inr, ◌==◌, ◌&&◌, option_map, and_parts, cases_eq, eq-eqb, eqb-true, get_or-set_other, get_or-set_same, same_Some, slice_get-get_or, ChannelId, SessionId, Slot, Perm, row_of, root_row, Row, User, session_of, perm_of, visits_of, IsProper, StateValue, shown, session_known, place_within, row_at, slot_below, Key, PermEntry, IsKey, answers_key, ArePermsSound, PermSound, PermStands, answers, index_of, kept_at, no_perm, perm_at, perm_entry, perm_index, visits_at, count_of, place_of, slot_of}
+use Rattle.mum_cache.proofs.{Others.is_placed, Others.is_seated, Others.place_is, Others.slot_at, Others.slot_is, Staying.one_of}
 
 pub set_itself : {X : Type 0} (xs : List X) (i : ℕ) (d : X) → i < length xs → set xs i (get_or xs i d) ≡ xs
 set_itself [] i d within = absurd (omega arith)

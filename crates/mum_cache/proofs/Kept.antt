@@ -1,26 +1,5 @@
 -- A route, and what is kept with it.
-use Rattle.std.proofs.Common.{◌≡◌, ◌≢◌, ℕ, ◌<◌, ◌≤◌, true, List, [], length, get_or, set, refl, sym, ap, subst, ◌∙◌, arith, Option, Some, inl, inr}
-use Rattle.std.specs.Option.{option_map, option_map_or}
-use Rattle.std.proofs.lemmas.Bool.{cases_eq, cases_lt}
-use Rattle.std.proofs.lemmas.List.{get_or-set_other, get_or-set_same}
-use Rattle.std.proofs.lemmas.Option.{same_Some}
-use Rattle.mum_base.specs.declared.number.SessionId.{SessionId}
-use Rattle.mum_base.specs.declared.number.Slot.{Slot}
-use Rattle.mum_users.specs.declared.user.User.{User}
-use Rattle.mum_users.specs.Sessions.{session_of}
-use Rattle.mum_state.specs.Proper.{IsProper}
-use Rattle.mum_state.specs.State.{StateValue}
-use Rattle.mum_state.proofs.Seats.{session_known}
-use Rattle.mum_route.specs.declared.context.Context.{Context}
-use Rattle.mum_route.specs.declared.routes.TheConstants.{LOOPBACK}
-use Rattle.mum_route.specs.Aims.{members_by}
-use Rattle.mum_route.specs.Route.{Member, heard_from, route}
-use Rattle.mum_route.proofs.Present.{channel_there}
-use Rattle.mum_route.proofs.Slots.{slot_below}
-use Rattle.mum_cache.specs.declared.routes.RouteEntry.{RouteEntry}
-use Rattle.mum_cache.specs.Asked.{IsSpeaker}
-use Rattle.mum_cache.specs.Routes.{AreRoutesSound, IsRouteEntry, KeepsRoute, RouteSound, no_route, route_entry_at, route_index, route_index_of, route_kept_at}
-use Rattle.mum_cache.specs.Places.{slot_of}
+use Rattle.mum_cache.proofs.Common.{◌≡◌, ◌≢◌, ℕ, ◌<◌, ◌≤◌, true, List, [], length, get_or, set, refl, sym, ap, subst, ◌∙◌, arith, Option, Some, inl, inr, option_map, option_map_or, cases_eq, cases_lt, get_or-set_other, get_or-set_same, same_Some, SessionId, Slot, User, session_of, IsProper, StateValue, session_known, Context, LOOPBACK, members_by, Member, heard_from, route, channel_there, slot_below, RouteEntry, IsSpeaker, AreRoutesSound, IsRouteEntry, KeepsRoute, RouteSound, no_route, route_entry_at, route_index, route_index_of, route_kept_at, slot_of}
 use Rattle.mum_cache.proofs.Others.{is_seated, number_is, slot_is}
 
 -- a session that is found may be asked

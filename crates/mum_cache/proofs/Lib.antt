@@ -1,3 +1,5 @@
+mod Common
+pub mod Public
 pub mod Padded
 pub mod Staying
 pub mod Others

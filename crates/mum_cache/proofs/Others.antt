@@ -1,30 +1,5 @@
 -- An answer that is kept takes no entry of others that are there.
-use Rattle.std.proofs.Common.{◌≡◌, ℕ, ◌+◌, ◌<◌, ◌≤◌, Bool, true, false, cond, List, [], ◌∷◌, get_or, refl, sym, ap, subst, ◌∙◌, arith, Option, Some, is_some, inl, inr}
-use Rattle.std.specs.Prelude.{◌&&◌, find}
-use Rattle.std.specs.Option.{option_map, option_map_or}
-use Rattle.std.proofs.lemmas.Bool.{and_parts, cases_eq, eq-eqb, eqb-true}
-use Rattle.std.proofs.lemmas.List.{get_or-set_other}
-use Rattle.std.proofs.lemmas.Option.{same_Some}
-use Rattle.mum_base.specs.declared.number.ChannelId.{ChannelId}
-use Rattle.mum_base.specs.declared.number.SessionId.{SessionId}
-use Rattle.mum_base.specs.declared.number.Slot.{Slot}
-use Rattle.mum_tree.specs.declared.channel.Row.{Row}
-use Rattle.mum_tree.specs.Rows.{is_there, row_of}
-use Rattle.mum_tree.proofs.Start.{root_row}
-use Rattle.mum_users.specs.declared.user.User.{User}
-use Rattle.mum_users.specs.Proper.{SlotsRise}
-use Rattle.mum_users.specs.Sessions.{session_of}
-use Rattle.mum_users.specs.State.{has_number}
-use Rattle.mum_state.specs.Laws.{HasPlace, IsInSlot}
-use Rattle.mum_state.specs.Proper.{IsProper}
-use Rattle.mum_state.specs.State.{StateValue}
-use Rattle.mum_state.proofs.Each.{found_passes}
-use Rattle.mum_route.proofs.Known.{one_row, row_at}
-use Rattle.mum_route.proofs.Slots.{slot_below}
-use Rattle.mum_cache.specs.Laws.{AnswersWhereItStands, OtherPermsStay, OtherRoutesStay, RoutesAnswerWhereTheyStand}
-use Rattle.mum_cache.specs.Perms.{index_of, no_perm, perm_at, perm_index}
-use Rattle.mum_cache.specs.Places.{place_of, slot_of}
-use Rattle.mum_cache.specs.Routes.{no_route, route_entry_at, route_index, route_index_of}
+use Rattle.mum_cache.proofs.Common.{◌≡◌, ℕ, ◌+◌, ◌<◌, ◌≤◌, Bool, true, false, cond, List, [], ◌∷◌, get_or, refl, sym, ap, subst, ◌∙◌, arith, Option, Some, is_some, inl, inr, ◌&&◌, find, option_map, option_map_or, and_parts, cases_eq, eq-eqb, eqb-true, get_or-set_other, same_Some, ChannelId, SessionId, Slot, Row, is_there, row_of, root_row, User, SlotsRise, session_of, has_number, HasPlace, IsInSlot, IsProper, StateValue, found_passes, one_row, row_at, slot_below, AnswersWhereItStands, OtherPermsStay, OtherRoutesStay, RoutesAnswerWhereTheyStand, index_of, no_perm, perm_at, perm_index, place_of, slot_of, no_route, route_entry_at, route_index, route_index_of}
 use Rattle.mum_cache.proofs.Staying.{one_of}
 
 -- ---- who is in a slot
@@ -133,7 +108,7 @@ other_routes_stay_lem state entries speaker target new slot other proper sound a
       | inr off ↦ get_or-set_other entries (route_index_of state speaker target) (route_index slot other) new no_route (λ is. off (sym is))
     ]
 
--- ---- what stands
+-- ---- what is valid
 
 abbrev pub slot_at : ℕ → Slot
 slot_at n = record { 0 = n }

@@ -1,7 +1,5 @@
--- What is written of a table, with what is behind it.
-use Rattle.std.proofs.Common.{◌≡◌, ℕ, suc, ◌+◌, ◌-◌, ◌<◌, ◌≤◌, List, [], ◌∷◌, ◌++◌, length, get_or, replicate, set, refl, sym, ap, ◌∙◌, arith}
-use Rattle.std.proofs.lemmas.List.{append_assoc, get_or-append_right, get_or-replicate, get_or_append_left, length-append, length-replicate, length-set, length_push, set-append_left}
-use Rattle.mum_cache.specs.Table.{padded}
+-- What is written of a table, with what follows it.
+use Rattle.mum_cache.proofs.Common.{◌≡◌, ℕ, suc, ◌+◌, ◌-◌, ◌<◌, ◌≤◌, List, [], ◌∷◌, ◌++◌, length, get_or, replicate, set, refl, sym, ap, ◌∙◌, arith, append_assoc, get_or-append_right, get_or-replicate, get_or_append_left, length-append, length-replicate, length-set, length_push, set-append_left, padded}
 
 pub padded_none : {X : Type 0} (room : ℕ) (blank : X) → padded room blank [] ≡ replicate room blank
 unfolding padded

@@ -1,14 +1,5 @@
 -- When what is kept of a permission is taken, worked out on small states.
-use Rattle.std.proofs.Common.{◌≡◌, ℕ, ◌*◌, Bool, true, false, List, [], ◌∷◌, ◌++◌, codes, replicate, Option, Some, refl}
-use Rattle.mum_base.specs.declared.number.TheConstants.{SLOTS}
-use Rattle.mum_base.specs.declared.perm.TheConstants.Perm.{SPEAK}
-use Rattle.mum_policy.specs.Walk.{visits, visits_along}
-use Rattle.mum_policy.proofs.Scenes.{denies, everybody, one, only_here, plain, those_in}
-use Rattle.mum_users.proofs.Scenes.{channel, session}
-use Rattle.mum_state.specs.declared.edit.Edit.{Edit}
-use Rattle.mum_state.proofs.Scenes.{counts_in, enter, join, link, make, move, rights_in, set_policy, state}
-use Rattle.mum_cache.specs.declared.perms.PermEntry.{PermEntry}
-use Rattle.mum_cache.specs.Perms.{answers, kept_at, no_perm, perm_entry, visits_at}
+use Rattle.mum_cache.proofs.Common.{◌≡◌, ℕ, ◌*◌, Bool, true, false, List, [], ◌∷◌, ◌++◌, codes, replicate, Option, Some, refl, SLOTS, SPEAK, visits, visits_along, denies, everybody, one, only_here, plain, those_in, channel, session, Edit, counts_in, enter, join, link, make, move, rights_in, set_policy, state, PermEntry, answers, kept_at, no_perm, perm_entry, visits_at}
 
 -- how many entries of access control lists are read for session 1 in a channel, where this is kept
 abbrev read : List Edit → ℕ → List PermEntry → ℕ

@@ -1,45 +1,5 @@
 -- What is sound outlives edits that fit.
-use Rattle.std.proofs.Common.{◌≡◌, ℕ, zero, suc, ◌*◌, ◌<◌, ◌≤◌, Bool, true, false, List, [], ◌∷◌, length, map, get_or, replicate, refl, sym, ap, subst, ◌∙◌, arith, Option, Some, None, is_some}
-use Rattle.std.specs.Prelude.{IsTrue}
-use Rattle.std.specs.List.{cons_option, list_any}
-use Rattle.std.specs.Option.{option_map}
-use Rattle.std.proofs.lemmas.Bool.{false≢true}
-use Rattle.std.proofs.lemmas.Option.{slice_get-get_or}
-use Rattle.mum_base.specs.declared.number.ChannelId.{ChannelId}
-use Rattle.mum_base.specs.declared.number.SessionId.{SessionId}
-use Rattle.mum_base.specs.declared.number.Slot.{Slot}
-use Rattle.mum_base.specs.declared.number.TheConstants.{PLACES, SLOTS}
-use Rattle.mum_tree.specs.declared.channel.Row.{Row}
-use Rattle.mum_tree.specs.Rows.{is_there, row_of}
-use Rattle.mum_users.specs.declared.user.User.{User}
-use Rattle.mum_users.specs.Sessions.{session_of}
-use Rattle.mum_users.specs.State.{has_number}
-use Rattle.mum_state.specs.declared.edit.Edit.{Edit}
-use Rattle.mum_state.specs.After.{all_fit, led_to}
-use Rattle.mum_state.specs.Laws.{AreAtMost, HasPlace, IsInSlot}
-use Rattle.mum_state.specs.Proper.{IsProper}
-use Rattle.mum_state.specs.Routed.{RouteInputs, route_inputs, without_talk}
-use Rattle.mum_state.specs.State.{StateValue}
-use Rattle.mum_state.proofs.Counting.{counts_never_fall_lem}
-use Rattle.mum_state.proofs.Each.{shown, some_found}
-use Rattle.mum_state.proofs.Granted.{permissions_stand_lem}
-use Rattle.mum_state.proofs.Numbers.{numbers_never_fall_lem}
-use Rattle.mum_state.proofs.Present.{present_was_present_lem}
-use Rattle.mum_state.proofs.Routes.{routes_stand_lem}
-use Rattle.mum_state.proofs.Seats.{seats_stand_lem}
-use Rattle.mum_route.specs.declared.context.Context.{Context}
-use Rattle.mum_route.specs.declared.routes.TheConstants.{LOOPBACK}
-use Rattle.mum_route.specs.Aims.{members_by}
-use Rattle.mum_route.specs.Route.{member_by}
-use Rattle.mum_route.proofs.Inputs.{route_is_of_its_inputs_lem}
-use Rattle.mum_cache.specs.declared.perms.PermEntry.{PermEntry}
-use Rattle.mum_cache.specs.declared.routes.RouteEntry.{RouteEntry}
-use Rattle.mum_cache.specs.declared.caches.Caches.{Caches}
-use Rattle.mum_cache.specs.Caches.{AreSound, no_caches}
-use Rattle.mum_cache.specs.Laws.{NothingIsSound, SoundStays}
-use Rattle.mum_cache.specs.Perms.{PermSound, no_perm, perm_at, perm_index, no_perms}
-use Rattle.mum_cache.specs.Places.{count_of}
-use Rattle.mum_cache.specs.Routes.{RouteSound, no_route, route_entry_at, route_index, no_routes}
+use Rattle.mum_cache.proofs.Common.{◌≡◌, ℕ, zero, suc, ◌*◌, ◌<◌, ◌≤◌, Bool, true, false, List, [], ◌∷◌, length, map, get_or, replicate, refl, sym, ap, subst, ◌∙◌, arith, Option, Some, None, is_some, IsTrue, cons_option, list_any, option_map, false≢true, slice_get-get_or, ChannelId, SessionId, Slot, PLACES, SLOTS, Row, is_there, row_of, User, session_of, has_number, Edit, all_fit, led_to, AreAtMost, HasPlace, IsInSlot, IsProper, RouteInputs, route_inputs, without_talk, StateValue, counts_never_fall_lem, shown, some_found, permissions_stand_lem, numbers_never_fall_lem, present_was_present_lem, routes_stand_lem, seats_stand_lem, Context, LOOPBACK, members_by, member_by, route_is_of_its_inputs_lem, PermEntry, RouteEntry, Caches, AreSound, no_caches, NothingIsSound, SoundStays, PermSound, no_perm, perm_at, perm_index, no_perms, count_of, RouteSound, no_route, route_entry_at, route_index, no_routes}
 
 pub one_of : {X : Type 0} (o : Option X) → is_some o ≡ true → (x : X) × (o ≡ Some x)
 one_of None some = absurd (false≢true some)

@@ -1,12 +1,10 @@
 -- A speaker that is there, and its entry, as the code knows it.
 use Rattle.std.specs.Prelude.{◌≡◌, ℕ, ◌<◌, ◌==◌, ◌&&◌, Bool, Some, IsTrue}
-use Rattle.mum_base.specs.declared.number.SessionId.{SessionId}
-use Rattle.mum_base.specs.declared.number.TheConstants.{SLOTS}
+use Rattle.mum_base.specs.declared.number.{SessionId.SessionId, TheConstants.SLOTS}
 use Rattle.mum_tree.specs.Rows.{is_there}
 use Rattle.mum_users.specs.declared.user.User.{User}
 use Rattle.mum_users.specs.Sessions.{session_of}
-use Rattle.mum_state.specs.Proper.{IsProper}
-use Rattle.mum_state.specs.State.{StateValue}
+use Rattle.mum_state.specs.{Proper.IsProper, State.StateValue}
 use Rattle.mum_cache.specs.declared.routes.RouteEntry.{RouteEntry}
 
 pub record IsSpeaker (state : StateValue) (speaker : User) : Type 0 where

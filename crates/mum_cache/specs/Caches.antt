@@ -1,8 +1,7 @@
 -- What is kept of permissions and of routes.
 use Rattle.mum_state.specs.State.{StateValue}
 use Rattle.mum_cache.specs.declared.caches.Caches.{Caches}
-use Rattle.mum_cache.specs.Perms.{ArePermsSound, no_perms}
-use Rattle.mum_cache.specs.Routes.{AreRoutesSound, no_routes}
+use Rattle.mum_cache.specs.{Perms.ArePermsSound, Perms.no_perms, Routes.AreRoutesSound, Routes.no_routes}
 
 -- nothing is kept
 abbrev pub no_caches : Caches

@@ -1,14 +1,10 @@
 -- Where the answer for a session and a channel is kept, as the code knows it.
 use Rattle.std.specs.Prelude.{◌≡◌, ◌<◌, ◌==◌, ◌&&◌, Bool}
-use Rattle.mum_base.specs.declared.number.ChannelId.{ChannelId}
-use Rattle.mum_base.specs.declared.number.SessionId.{SessionId}
+use Rattle.mum_base.specs.declared.number.{ChannelId.ChannelId, SessionId.SessionId}
 use Rattle.mum_base.specs.declared.number.TheConstants.{PLACES, SLOTS}
-use Rattle.mum_state.specs.Proper.{IsProper}
-use Rattle.mum_state.specs.State.{StateValue}
-use Rattle.mum_cache.specs.declared.perms.Key.{Key}
-use Rattle.mum_cache.specs.declared.perms.PermEntry.{PermEntry}
-use Rattle.mum_cache.specs.Perms.{IsThere, index_of}
-use Rattle.mum_cache.specs.Places.{count_of, place_of, slot_of}
+use Rattle.mum_state.specs.{Proper.IsProper, State.StateValue}
+use Rattle.mum_cache.specs.declared.perms.{Key.Key, PermEntry.PermEntry}
+use Rattle.mum_cache.specs.{Perms.IsThere, Perms.index_of, Places.count_of, Places.place_of, Places.slot_of}
 
 pub record IsKey (state : StateValue) (session : SessionId) (channel : ChannelId) (key : Key) : Type 0 where
   pub proper : IsProper state

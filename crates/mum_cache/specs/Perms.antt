@@ -1,15 +1,10 @@
 -- What is kept of the permissions of a state.
 use Rattle.std.specs.Prelude.{◌≡◌, ℕ, ◌+◌, ◌*◌, ◌<◌, ◌≤◌, ◌==◌, ◌&&◌, Bool, false, true, List, MatchOption, Option, replicate, set, slice_index_or, Some, IsSome, IsTrue, if◌then◌else◌}
-use Rattle.mum_base.specs.declared.number.ChannelId.{ChannelId}
-use Rattle.mum_base.specs.declared.number.SessionId.{SessionId}
-use Rattle.mum_base.specs.declared.number.Slot.{Slot}
-use Rattle.mum_base.specs.declared.number.TheConstants.{PLACES, SLOTS}
-use Rattle.mum_base.specs.declared.perm.Perm.{Perm}
+use Rattle.mum_base.specs.declared.number.{ChannelId.ChannelId, SessionId.SessionId, Slot.Slot}
+use Rattle.mum_base.specs.declared.{number.TheConstants.PLACES, number.TheConstants.SLOTS, perm.Perm.Perm}
 use Rattle.mum_tree.specs.Rows.{is_there}
 use Rattle.mum_users.specs.Sessions.{session_of}
-use Rattle.mum_state.specs.Laws.{HasPlace, IsInSlot}
-use Rattle.mum_state.specs.Permissions.{perm_of, visits_of}
-use Rattle.mum_state.specs.State.{StateValue}
+use Rattle.mum_state.specs.{Laws.HasPlace, Laws.IsInSlot, Permissions.perm_of, Permissions.visits_of, State.StateValue}
 use Rattle.mum_cache.specs.declared.perms.PermEntry.{PermEntry}
 use Rattle.mum_cache.specs.Places.{count_of, place_of, slot_of}
 
@@ -23,7 +18,7 @@ no_perm = record { used = false; session = record { 0 = 0 }; channel = record { 
 unfoldable pub no_perms : List PermEntry
 no_perms = replicate (SLOTS * PLACES) no_perm
 
--- where an entry is: those of one place for all slots, and behind them those of the next
+-- where an entry is: those of one place for all slots, and after them those of the next
 abbrev pub perm_index : ℕ → ℕ → ℕ
 perm_index slot place = place * SLOTS + slot
 
@@ -32,7 +27,7 @@ perm_at entries slot place = slice_index_or entries (perm_index slot place) no_p
 
 -- ---- which of them are right
 
--- an entry of this slot stands: its session is in the slot, its channel is there, and both counts are those of the state
+-- an entry of this slot is valid: its session is in the slot, its channel is there, both counts are those of the state
 pub record PermStands (state : StateValue) (slot : ℕ) (entry : PermEntry) : Type 0 where
   pub seated : IsInSlot state entry.session (record { 0 = slot })
   pub there : IsTrue (is_there state.tree.channels entry.channel)
@@ -40,7 +35,7 @@ pub record PermStands (state : StateValue) (slot : ℕ) (entry : PermEntry) : Ty
   pub count : entry.count ≡ count_of state slot
 
 -- No count is above the state's, and no number above the greatest that the state ever gave. A session that is there has
--- this slot, and a channel that is there has this place. One that stands has what the session may do in the channel.
+-- this slot, and a channel that is there has this place. One that is valid has what the session may do in the channel.
 pub record PermSound (state : StateValue) (slot place : ℕ) (entry : PermEntry) : Type 0 where
   pub policy : entry.policy ≤ state.counts.policy
   pub count : entry.count ≤ count_of state slot
@@ -71,13 +66,13 @@ index_of state session channel = perm_index (slot_of state session) (place_of st
 abbrev pub kept_at : StateValue → SessionId → ChannelId → List PermEntry → PermEntry
 kept_at state session channel entries = perm_at entries (slot_of state session) (place_of state channel)
 
--- the entry is of the session and the channel, which are there, and has the counts of the state: so it stands
+-- the entry is of the session and the channel, which are there, and has the counts of the state: so it is valid
 abbrev pub answers : StateValue → SessionId → ChannelId → PermEntry → Bool
 answers state session channel entry =
     entry.used && (entry.session.0 == session.0) && (entry.channel.0 == channel.0)
     && (entry.policy == state.counts.policy) && (entry.count == count_of state (slot_of state session))
 
--- how many entries of access control lists are read for an answer: none where the entry stands
+-- how many entries of access control lists are read for an answer: none where the entry is valid
 abbrev pub visits_at : StateValue → SessionId → ChannelId → List PermEntry → ℕ
 visits_at state session channel entries =
     if answers state session channel (kept_at state session channel entries) then 0 else visits_of state session channel
@@ -95,7 +90,8 @@ perm_entry state session channel value = record {
 
 -- What an answer leaves: its entry is at the place of the session and the channel, with the counts of the state, and
 -- every other entry is as it was.
-pub record KeepsPerm (state : StateValue) (session : SessionId) (channel : ChannelId) (value : Perm) (before later : List PermEntry) : Type 0 where
+pub record KeepsPerm (state : StateValue) (session : SessionId) (channel : ChannelId) (value : Perm)
+    (before later : List PermEntry) : Type 0 where
   pub kept : later ≡ set before (index_of state session channel) (perm_entry state session channel value)
   pub stands : IsTrue (answers state session channel (kept_at state session channel later))
 

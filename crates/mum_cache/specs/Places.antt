@@ -1,8 +1,7 @@
 -- Where a state has its sessions and channels.
 use Rattle.std.specs.Prelude.{ℕ, slice_index_or}
 use Rattle.std.specs.Option.{option_map_or}
-use Rattle.mum_base.specs.declared.number.ChannelId.{ChannelId}
-use Rattle.mum_base.specs.declared.number.SessionId.{SessionId}
+use Rattle.mum_base.specs.declared.number.{ChannelId.ChannelId, SessionId.SessionId}
 use Rattle.mum_tree.specs.Rows.{row_of}
 use Rattle.mum_users.specs.Sessions.{session_of}
 use Rattle.mum_state.specs.State.{StateValue}

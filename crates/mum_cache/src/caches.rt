@@ -43,7 +43,7 @@ impl Caches {
     }
 
     /// Who hears what a session says to a target, in place of who was in the audience, as `RouteCache::route_at`
-    /// tells it. It takes no memory.
+    /// reports it. It takes no memory.
     pub fn route_at<L: Ledger>(
         &mut self,
         state: &State,

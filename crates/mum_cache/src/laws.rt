@@ -13,8 +13,8 @@ pub fn nothing_is_sound()
     ensures { NothingIsSound }
 {}
 
-/// An entry of a session and a channel that are there answers for them exactly where it stands, and so does the kept route
-/// of a speaker that is there.
+/// An entry of a session and a channel that are there answers for them exactly where it is valid, and so does
+/// the kept route of a speaker that is there.
 pub fn answers_where_it_stands()
     ensures perms { AnswersWhereItStands }
     ensures routes { RoutesAnswerWhereTheyStand }

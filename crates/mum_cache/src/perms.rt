@@ -18,7 +18,7 @@ use std::alloc::Global;
 use std::marker::Model;
 use std::sync::ledger::Ledger;
 
-/// What a session may do in a channel, with the counts of the state that said so.
+// What a session may do in a channel, with the counts of the state that said so.
 #[derive(Clone, Copy, Debug)]
 pub(crate) struct PermEntry {
     pub(crate) used: bool,
@@ -158,7 +158,7 @@ impl PermCache {
         })
     }
 
-    /// What a session may do in a channel, where both are there. Where the entry of the two stands no step is
+    /// What a session may do in a channel, where both are there. Where the entry of the two is valid no step is
     /// counted, else one for each entry of an access control list that is read. The answer is kept, with the
     /// counts of the state. It takes no memory.
     pub fn permissions_at<L: Ledger>(

@@ -22,8 +22,8 @@ use std::alloc::Global;
 use std::marker::Model;
 use std::sync::ledger::Ledger;
 
-/// How a speaker's packets to a target reach each session, by its place among the sessions, with the count of
-/// the state in which they do.
+// How a speaker's packets to a target reach each session, by its place among the sessions, with the count of
+// the state in which they do.
 #[derive(Clone, Copy, Debug)]
 pub(crate) struct RouteEntry {
     pub(crate) used: bool,
@@ -117,7 +117,7 @@ impl RouteCache {
     }
 
     /// Who hears what a session says to a target, in place of who was in the audience, as `route_into` of
-    /// `mum_route` tells it. Where the entry of the speaker and the target stands no step is counted, and
+    /// `mum_route` reports it. Where the entry of the speaker and the target is valid no step is counted, and
     /// `perms` is as it was. Else what sessions may do in channels is asked of `perms`. The answer is kept, but for loopback and for a speaker
     /// that is not there. It takes no memory.
     pub fn route_at<L: Ledger>(

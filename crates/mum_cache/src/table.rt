@@ -7,11 +7,11 @@ use mum_base::OutOfMemory;
 use std::alloc::Global;
 use std::marker::Model;
 
-/// A value for each number below a room, which begins as the same for all. The memory for all of them is reserved
-/// when the table is made. It is written, and so resident, up to the greatest number whose value was ever set.
+// A value for each number below a room, which begins as the same for all. The memory for all of them is reserved
+// when the table is made. It is written, and so resident, up to the greatest number whose value was ever set.
 #[derive(Drop)]
 pub(crate) struct Table<T: Copy> {
-    // The value of each number behind those that are written.
+    // The value of each number after those that are written.
     blank: T,
     written: Vec<T>,
 }
@@ -25,7 +25,7 @@ impl<T: Copy> Model for Table<T> {
     ghost view = { λ t. padded (vec_capacity t.written) t.blank t.written.items };
 }
 
-// Writes this value behind the others, until there is one for the number.
+// Writes this value after the others, until there is one for the number.
 fn write_up_to<T: Copy>(written: &mut Vec<T>, blank: T, number: usize)
     requires { number < vec_capacity written.old }
     ensures same { padded (vec_capacity written.new) blank written.new.items
@@ -39,7 +39,7 @@ fn write_up_to<T: Copy>(written: &mut Vec<T>, blank: T, number: usize)
 }
 
 impl<T: Copy> Table<T> {
-    /// This value for each number below the room.
+    // This value for each number below the room.
     pub(crate) fn new(alloc: Global, room: usize, blank: T) -> Result<Table<T>, OutOfMemory>
         ensures { IfOk result (λ table. table ≡ replicate room blank) }
     {
@@ -49,7 +49,7 @@ impl<T: Copy> Table<T> {
         })
     }
 
-    /// The value of a number.
+    // The value of a number.
     pub(crate) fn at(&self, number: usize) -> &T
         requires { number < length self.now }
         ensures { result.now ≡ slice_index_or self.now number result.now }
@@ -61,7 +61,7 @@ impl<T: Copy> Table<T> {
         }
     }
 
-    /// Sets the value of a number. It takes no memory.
+    // Sets the value of a number. It takes no memory.
     pub(crate) fn put(&mut self, number: usize, value: T)
         requires { number < length self.old }
         ensures { self.new ≡ set self.old number value }

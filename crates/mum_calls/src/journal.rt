@@ -5,13 +5,13 @@ use mum_record::{read_journal, read_step, write_journal, write_step};
 use mum_server::generate;
 use std::alloc::Global;
 
-/// Two users, one of whom says something.
+// Two users, one of whom says something.
 const JOURNAL: &str = "journal 1\nworkers 1\nconfig -\n\
                        c 1 - 0002000000050a03616e6e accepted 1\n\
                        c 2 - 0002000000050a03626f62 accepted 2\n\
                        worker 0\nv 1 2 800103aabbcc 1 2/0/s\nx 1 end\nx 2 end\nend\n";
 
-/// Nobody came to a server of the greatest limits.
+// Nobody came to a server of the greatest limits.
 const LIMITED_JOURNAL: &str = "journal 2\nworkers 1\nlimits 512 2048\nconfig -\nworker 0\nend\n";
 
 const STEP: &str = "frame 1 0002000000050a03616e6e";

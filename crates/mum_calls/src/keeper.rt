@@ -28,7 +28,7 @@ fn no_rows(alloc: Global) -> KeptRows {
     }
 }
 
-/// The root, and two channels under it that are linked.
+// The root, and two channels under it that are linked.
 fn first_rows(alloc: Global) -> Result<KeptRows, OutOfMemory> {
     let mut rows = no_rows(alloc);
     rows.channels.push(channel(alloc, 0, 0, "Root")?)?;
@@ -38,7 +38,7 @@ fn first_rows(alloc: Global) -> Result<KeptRows, OutOfMemory> {
     Ok(rows)
 }
 
-/// The second channel is gone with its link, and the first has another name.
+// The second channel is gone with its link, and the first has another name.
 fn later_rows(alloc: Global) -> Result<KeptRows, OutOfMemory> {
     let mut rows = no_rows(alloc);
     rows.channels.push(channel(alloc, 0, 0, "Root")?)?;

@@ -10,7 +10,7 @@ use mum_tree::ChannelInfo;
 use std::alloc::Global;
 use std::mem::drop;
 
-/// A channel with a policy that is open.
+// A channel with a policy that is open.
 fn channel(alloc: Global, id: u8, parent: u32, name: &str) -> Result<KeptChannel, OutOfMemory> {
     Ok(KeptChannel {
         id: ChannelId(u32::from(id)),
@@ -25,7 +25,7 @@ fn channel(alloc: Global, id: u8, parent: u32, name: &str) -> Result<KeptChannel
     })
 }
 
-/// The root and two channels, of which the first is under the second; they are linked.
+// The root and two channels, of which the first is under the second; they are linked.
 fn three_channels(alloc: Global) -> Result<KeptRows, OutOfMemory> {
     let mut channels = Items::new(alloc);
     channels.push(channel(alloc, 0, 0, "Root")?)?;
@@ -60,7 +60,7 @@ fn apply(told: &mut String, state: &mut State, edits: &[Edit]) -> Result<()> {
     Ok(())
 }
 
-/// Rows, and what is kept of a state that has their policies.
+// Rows, and what is kept of a state that has their policies.
 fn say_both(alloc: Global, told: &mut String, state: &State, rows: &KeptRows) -> Result<()>
     requires { HavePoliciesOf state.now rows.now.channels }
 {
@@ -71,7 +71,7 @@ fn say_both(alloc: Global, told: &mut String, state: &State, rows: &KeptRows) ->
     said
 }
 
-/// What is kept of a state that was made of rows, twice: the second time with the policies of the first.
+// What is kept of a state that was made of rows, twice: the second time with the policies of the first.
 #[tactic(auto, using(mum_kept::proofs::Whole::tree_of_good, mum_kept::proofs::Standing::kept_has))]
 fn make_again(alloc: Global, told: &mut String, state: &mut State, rows: &KeptRows) -> Result<()> {
     let good = good_rows(alloc, rows)?;

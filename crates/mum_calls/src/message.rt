@@ -12,7 +12,7 @@ use mum_msg_state::{
 use std::alloc::Global;
 use std::mem::drop;
 
-/// The message of a payload, which it is written as again.
+// The message of a payload, which it is written as again.
 fn again<M: Message + Drop>(
     alloc: Global,
     told: &mut String,

@@ -1,8 +1,8 @@
-//! What a session is told that joins, and whether an edit fits what is told of it.
+//! What a session is sent when it joins.
 
 use anyhow::{Context, Result, ensure};
 use mum_base::{Items, SessionId, Text};
-use mum_notify::{fits_frame, sync_block};
+use mum_notify::sync_block;
 use mum_state::{Edit, State};
 use std::alloc::Global;
 use std::mem::drop;
@@ -19,9 +19,7 @@ fn join(alloc: Global, state: &State) -> Result<Edit> {
     })
 }
 
-fn apply(alloc: Global, told: &mut String, state: &mut State, edit: &Edit) -> Result<()> {
-    let fits = fits_frame(alloc, edit)?;
-    writeln!(told, "a join fits a frame: {fits}")?;
+fn apply(state: &mut State, edit: &Edit) -> Result<()> {
     ensure!(state.fits(edit), "it fits the state");
     state.apply(edit)?;
     Ok(())
@@ -29,7 +27,7 @@ fn apply(alloc: Global, told: &mut String, state: &mut State, edit: &Edit) -> Re
 
 fn call_on(alloc: Global, told: &mut String, state: &mut State) -> Result<()> {
     let edit = join(alloc, state)?;
-    let applied = apply(alloc, told, state, &edit);
+    let applied = apply(state, &edit);
     drop(edit);
     applied?;
     let parcels = sync_block(alloc, state, SessionId(1))?;

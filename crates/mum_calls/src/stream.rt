@@ -5,7 +5,7 @@ use mum_fields::Reader;
 use mum_frame::{Framer, ROOM_LIMIT};
 use std::alloc::Global;
 
-/// What a client opens with: Version, Authenticate, Ping, and a UserState with a plugin's context.
+// What a client opens with: Version, Authenticate, Ping, and a UserState with a plugin's context.
 const OPENING: &str = "000000000012088088041207312e342e3238371a03583131\
                        00020000001a0a03616e6e1a06736563726574208b808080f8ffffffff012801\
                        0003000000070805450000803f00090000000a5a02ffd8620267314800";

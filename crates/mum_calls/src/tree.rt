@@ -10,7 +10,7 @@ const FIRST: ChannelId = ChannelId(1);
 
 const SECOND: ChannelId = ChannelId(2);
 
-/// The root with two channels below it.
+// The root with two channels below it.
 fn two_channels(alloc: Global) -> Result<Tree, TreeFault> {
     let mut tree = Tree::new(alloc)?;
     tree.add(FIRST, ChannelId::ROOT, "one", false)?;

@@ -1,47 +1,8 @@
 -- The channels that an edit of one changes are those of which messages are sent.
-use Rattle.std.proofs.Common.{◌≡◌, ℕ, ℤ, ◌==◌, ◌&&◌, ◌||◌, Bool, true, false, not, cond, List, [], ◌∷◌, ◌++◌, map, Option, Some, None, refl, ap, sym, ◌∙◌, subst, fold, nat_lt}
-use Rattle.std.specs.List.{filter, flat_map, list_all, list_any}
-use Rattle.std.specs.Option.{option_map, option_map_or}
-use Rattle.std.specs.Ordering.{int_eq}
-use Rattle.std.specs.Str.{bytes_eq}
-use Rattle.std.proofs.lemmas.Bool.{and_parts, eq-eqb, eqb-true, or_parts}
-use Rattle.mum_base.specs.Channels.{is_among}
-use Rattle.mum_base.specs.declared.number.{ChannelId.ChannelId, SessionId.SessionId}
-use Rattle.mum_msg_state.specs.declared.channel_state.ChannelState.{ChannelState}
-use Rattle.mum_tree.specs.Rows.{is_there, number, row_of}
-use Rattle.mum_tree.specs.State.{TreeState, are_linked, partners}
-use Rattle.mum_tree.specs.declared.channel.Channel.{Channel}
-use Rattle.mum_tree.specs.declared.channel.Row.{Row}
-use Rattle.mum_users.proofs.Orders.{Rises-filter}
-use Rattle.mum_state.specs.Applied.{applied}
-use Rattle.mum_state.specs.Fits.{fits}
-use Rattle.mum_state.specs.Kinds.{is_empty}
-use Rattle.mum_state.specs.Proper.{IsProper}
-use Rattle.mum_state.specs.State.{StateValue}
-use Rattle.mum_state.specs.declared.edit.Edit.{Edit}
-use Rattle.mum_state.specs.declared.edit.Edit.TheVariants.{EditChannel}
-use Rattle.mum_state.proofs.Each.{Each, each_filter, each_so, none_passes, some_found, any_alike, each_any, each_passes, each_self}
-use Rattle.mum_state.proofs.Fitting.{fit_parts}
-use Rattle.mum_state.proofs.Keeping.{fit_proper}
-use Rattle.mum_state.proofs.Members.{any_mapped}
-use Rattle.mum_notify.specs.Channels.{channel_change_told, channel_changes_told, channel_difference, edited_channels, if_it_tells, is_lower, numbers, partners_only_in, tells_of_channel, with_channel}
-use Rattle.mum_notify.specs.Parcels.{all_to_each, channel_frame}
-use Rattle.mum_notify.proofs.Families.{same_channel}
-use Rattle.mum_notify.proofs.Standing.{other_channels_stand_lem}
-use Rattle.mum_client_laws.specs.Heard.{OfChannel, has_any}
-use Rattle.mum_client_laws.specs.Recipients.{AboutChannel, AreExactly, Subject, all_channels, changed_channels, due_to_all, is_changed_channel, is_other_channel, is_relinked, subject_of, AboutLinks}
-use Rattle.mum_client_laws.proofs.ChannelsAfter.{same_there}
-use Rattle.mum_client_laws.proofs.Closing.{linked_there}
-use Rattle.mum_client_laws.proofs.Exactly.{every, exactly_to_all, kept_within, pieces_kept}
-use Rattle.mum_client_laws.proofs.Framed.{channel_framed}
-use Rattle.mum_client_laws.proofs.Linked.{partner_is}
-use Rattle.mum_client_laws.proofs.Rising.{among_kept, ordered_rise, rising_same, rows_rise}
-use Rattle.mum_client_laws.proofs.SessionsDue.{given_unless, or_grouped, same_text, some_kept}
-use Rattle.std.proofs.lemmas.Bool.Decides.{Decides-int_eq}
-use Rattle.mum_tree.proofs.Changed.{number_found}
-use Rattle.mum_state.specs.Named.{given}
+use Rattle.mum_client_laws.proofs.Common.{◌≡◌, ℕ, ℤ, ◌==◌, ◌&&◌, ◌||◌, Bool, true, false, not, cond, List, [], ◌∷◌, ◌++◌, map, Option, Some, None, refl, ap, sym, ◌∙◌, subst, fold, nat_lt, filter, flat_map, list_all, list_any, option_map, option_map_or, int_eq, bytes_eq, and_parts, eq-eqb, eqb-true, or_parts, is_among, ChannelId, SessionId, ChannelState, is_there, number, row_of, TreeState, are_linked, partners, Channel, Row, Rises-filter, applied, fits, is_empty, IsProper, StateValue, Edit, EditChannel, Each, each_filter, each_so, none_passes, some_found, any_alike, each_any, each_passes, each_self, fit_parts, fit_proper, any_mapped, channel_change_told, channel_changes_told, channel_difference, edited_channels, if_it_tells, is_lower, numbers, partners_only_in, tells_of_channel, with_channel, all_to_each, channel_frame, same_channel, other_channels_stand_lem, OfChannel, has_any, AboutChannel, AreExactly, Subject, all_channels, changed_channels, due_to_all, is_changed_channel, is_other_channel, is_relinked, subject_of, AboutLinks, Decides-int_eq, number_found, given}
+use Rattle.mum_client_laws.proofs.{ChannelsAfter.same_there, Closing.linked_there, Exactly.every, Exactly.exactly_to_all, Exactly.kept_within, Exactly.pieces_kept, Framed.channel_framed, Linked.partner_is, Rising.among_kept, Rising.ordered_rise, Rising.rising_same, Rising.rows_rise, SessionsDue.given_unless, SessionsDue.or_grouped, SessionsDue.same_text, SessionsDue.some_kept}
 
--- ---- a message tells something exactly where the channel is another, or linked otherwise
+-- ---- a message reports something exactly where the channel has changed, or linked otherwise
 
 -- partners are linked
 partners_linked : (tree : TreeState) (id : ChannelId) → Each (λ other. are_linked tree id other ≡ true) (partners tree id)

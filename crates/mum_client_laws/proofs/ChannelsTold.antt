@@ -1,29 +1,6 @@
 -- What messages on channels that are others leave of each channel and of each link.
-use Rattle.std.proofs.Common.{◌≡◌, ◌⊎◌, ℕ, ◌==◌, ◌||◌, Bool, true, false, not, cond, List, [], ◌∷◌, Option, Some, None, refl, ap, sym, ◌∙◌, inl, inr}
-use Rattle.std.specs.List.{flat_map}
-use Rattle.std.specs.Option.{is_some, option_map, option_map_or, unwrap_or}
-use Rattle.std.specs.Ordering.{int_eq}
-use Rattle.std.specs.Str.{bytes_eq}
-use Rattle.std.proofs.lemmas.Bool.{eq-eqb, eqb-true, not-false, or_parts}
-use Rattle.std.proofs.lemmas.Bool.Decides.{Decides-int_eq}
-use Rattle.std.proofs.lemmas.List.Sums.{fold-append}
-use Rattle.std.proofs.lemmas.Slice.Eq.{bytes_eq-Decides}
-use Rattle.mum_base.specs.Channels.{is_among}
-use Rattle.mum_base.specs.declared.number.ChannelId.{ChannelId}
-use Rattle.mum_msg_state.specs.declared.channel_state.ChannelState.{ChannelState}
-use Rattle.mum_tree.specs.Rows.{row_of}
-use Rattle.mum_tree.specs.State.{TreeState}
-use Rattle.mum_tree.specs.declared.channel.Channel.{Channel}
-use Rattle.mum_tree.specs.declared.channel.Row.{Row}
-use Rattle.mum_tree.proofs.Changed.{number_found}
-use Rattle.mum_state.specs.Kinds.{is_empty}
-use Rattle.mum_notify.specs.Channels.{channel_change_told, channel_difference, channel_of, if_it_tells, tells_of_channel}
-use Rattle.mum_notify.proofs.Families.{same_channel}
-use Rattle.mum_notify.proofs.Standing.{apart_sym}
-use Rattle.mum_client_laws.specs.Heard.{channel_after, channel_heard, channels_heard, has_place, plain_channel}
-use Rattle.mum_client_laws.specs.Known.{Channels, KnownChannel, public_channel}
-use Rattle.mum_client_laws.proofs.Folded.{told_channels}
-use Rattle.mum_client_laws.proofs.Reported.{number_known, said_known, unset}
+use Rattle.mum_client_laws.proofs.Common.{◌≡◌, ◌⊎◌, ℕ, ◌==◌, ◌||◌, Bool, true, false, not, cond, List, [], ◌∷◌, Option, Some, None, refl, ap, sym, ◌∙◌, inl, inr, flat_map, is_some, option_map, option_map_or, unwrap_or, int_eq, bytes_eq, eq-eqb, eqb-true, not-false, or_parts, Decides-int_eq, fold-append, bytes_eq-Decides, is_among, ChannelId, ChannelState, row_of, TreeState, Channel, Row, number_found, is_empty, channel_change_told, channel_difference, channel_of, if_it_tells, tells_of_channel, same_channel, apart_sym, channel_after, channel_heard, channels_heard, has_place, plain_channel, Channels, KnownChannel, public_channel}
+use Rattle.mum_client_laws.proofs.{Folded.told_channels, Reported.number_known, Reported.said_known, Reported.unset}
 
 -- ---- one message
 

@@ -1,33 +1,6 @@
 -- What the message of a channel that goes leaves of channels and links.
-use Rattle.std.proofs.Common.{◌≡◌, ℕ, zero, suc, ◌==◌, ◌&&◌, Bool, true, false, true≢false, not, cond, List, [], ◌∷◌, map, Option, Some, None, refl, ap, sym, ◌∙◌, subst}
-use Rattle.std.specs.List.{filter, list_any}
-use Rattle.std.specs.Option.{is_some, option_map, option_map_or}
-use Rattle.std.proofs.Math.Path.{fun_ext}
-use Rattle.std.proofs.lemmas.Bool.{and_parts, both_ways, eqb-true, eq-eqb}
-use Rattle.mum_base.specs.declared.number.ChannelId.{ChannelId}
-use Rattle.mum_tree.specs.Proper.{IsProper as IsProperTree}
-use Rattle.mum_tree.specs.Rows.{is_below, is_root, is_temporary, is_there, row_of, upward}
-use Rattle.mum_tree.specs.State.{Pair, TreeState, are_linked, is_pair, without_subtree}
-use Rattle.mum_tree.specs.declared.channel.Row.{Row}
-use Rattle.mum_tree.specs.declared.channel.TheConstants.{PATH_LIMIT}
-use Rattle.mum_tree.proofs.Changed.{number_found}
-use Rattle.mum_tree.proofs.Shrunk.{kept_row, list_any-reverse}
-use Rattle.mum_state.specs.Emptied.{has_member}
-use Rattle.mum_state.specs.Followed.{with_left_closed}
-use Rattle.mum_state.specs.Named.{given}
-use Rattle.mum_state.specs.Proper.{IsProper}
-use Rattle.mum_state.specs.Set.{with_tree}
-use Rattle.mum_state.specs.State.{StateValue}
-use Rattle.mum_state.proofs.Emptying.{alone}
-use Rattle.mum_state.proofs.Gone.{there_without_subtree}
-use Rattle.mum_state.proofs.Members.{any_mapped}
-use Rattle.mum_notify.specs.Gone.{channel_gone}
-use Rattle.mum_notify.proofs.Families.{same_channel}
-use Rattle.mum_client_laws.specs.Heard.{OfChannelGone, all_heard, channels_left, goes_with, heard, links_left, upward as known_upward}
-use Rattle.mum_client_laws.specs.Known.{Channels, Known, KnownChannel, Pairs, numbered_channel, public_channel}
-use Rattle.mum_client_laws.proofs.Linked.{linked_both}
-use Rattle.mum_client_laws.proofs.LinksTold.{absent_unlinked}
-use Rattle.mum_client_laws.proofs.Lists.{any_kept}
+use Rattle.mum_client_laws.proofs.Common.{◌≡◌, ℕ, zero, suc, ◌==◌, ◌&&◌, Bool, true, false, true≢false, not, cond, List, [], ◌∷◌, map, Option, Some, None, refl, ap, sym, ◌∙◌, subst, filter, list_any, is_some, option_map, option_map_or, fun_ext, and_parts, both_ways, eqb-true, eq-eqb, ChannelId, IsProperTree, is_below, is_root, is_temporary, is_there, row_of, upward, Pair, TreeState, are_linked, is_pair, without_subtree, Row, PATH_LIMIT, number_found, kept_row, list_any-reverse, has_member, with_left_closed, given, IsProper, with_tree, StateValue, alone, there_without_subtree, any_mapped, channel_gone, same_channel, OfChannelGone, all_heard, channels_left, goes_with, heard, links_left, known_upward, Channels, Known, KnownChannel, Pairs, numbered_channel, public_channel}
+use Rattle.mum_client_laws.proofs.{Linked.linked_both, LinksTold.absent_unlinked, Lists.any_kept}
 
 -- ---- a tree as it is known
 

@@ -1,16 +1,5 @@
 -- Notices that are exactly those that are due, part after part.
-use Rattle.std.proofs.Common.{◌≡◌, ℕ, Bool, true, false, cond, List, [], ◌∷◌, ◌++◌, map, refl, ap, sym, ◌∙◌}
-use Rattle.std.specs.List.{filter, flat_map}
-use Rattle.std.proofs.lemmas.Bool.{both_ways}
-use Rattle.std.proofs.lemmas.List.{map-append}
-use Rattle.mum_users.specs.declared.user.User.{User}
-use Rattle.mum_state.specs.State.{StateValue}
-use Rattle.mum_state.proofs.Each.{Each}
-use Rattle.mum_notify.specs.Parcels.{all_to_each, parcel, to_each}
-use Rattle.mum_notify.specs.declared.notice.Notice.{Notice}
-use Rattle.mum_client_laws.specs.Brought.{frame_of}
-use Rattle.mum_client_laws.specs.Heard.{Message}
-use Rattle.mum_client_laws.specs.Recipients.{AreExactly, Due, Meets, due_to, due_to_all, subject_of}
+use Rattle.mum_client_laws.proofs.Common.{◌≡◌, ℕ, Bool, true, false, cond, List, [], ◌∷◌, ◌++◌, map, refl, ap, sym, ◌∙◌, filter, flat_map, both_ways, map-append, User, StateValue, Each, all_to_each, parcel, to_each, Notice, frame_of, Message, AreExactly, Due, Meets, due_to, due_to_all, subject_of}
 
 pub exactly_both : (one other : List Notice) (first last : List Due) → AreExactly one first → AreExactly other last → AreExactly (one ++ other) (first ++ last)
 exactly_both [] other [] last none is = is

@@ -1,15 +1,5 @@
 -- What messages of one kind leave of what is known, of each session alone.
-use Rattle.std.proofs.Common.{◌≡◌, ℕ, ◌==◌, Bool, true, false, cond, List, [], ◌∷◌, map, fold, Option, refl, ap, sym, ◌∙◌}
-use Rattle.std.specs.List.{filter, flat_map}
-use Rattle.std.specs.Option.{option_map_or}
-use Rattle.std.proofs.lemmas.List.Sums.{fold-append}
-use Rattle.mum_base.specs.declared.number.SessionId.{SessionId}
-use Rattle.mum_msg_rule.specs.declared.{permission_query.PermissionQuery.PermissionQuery, text_message.TextMessage.TextMessage}
-use Rattle.mum_msg_state.specs.declared.{channel_state.ChannelState.ChannelState, user_state.UserState.UserState}
-use Rattle.mum_users.specs.State.{has_number}
-use Rattle.mum_users.specs.declared.user.User.{User}
-use Rattle.mum_client_laws.specs.Heard.{OfChannel, OfPermissions, OfSession, OfText, all_heard, channels_heard, heard, links_heard, listening_after, listening_heard, session_after, sessions_heard}
-use Rattle.mum_client_laws.specs.Known.{Channels, Known, KnownSession, Pairs, Sessions}
+use Rattle.mum_client_laws.proofs.Common.{◌≡◌, ℕ, ◌==◌, Bool, true, false, cond, List, [], ◌∷◌, map, fold, Option, refl, ap, sym, ◌∙◌, filter, flat_map, option_map_or, fold-append, SessionId, PermissionQuery, TextMessage, ChannelState, UserState, has_number, User, OfChannel, OfPermissions, OfSession, OfText, all_heard, channels_heard, heard, links_heard, listening_after, listening_heard, session_after, sessions_heard, Channels, Known, KnownSession, Pairs, Sessions}
 
 -- ---- sessions
 

@@ -1,17 +1,5 @@
 -- The messages that the notices of an edit bring to a session that stays.
-use Rattle.std.proofs.Common.{◌≡◌, ℕ, ◌==◌, Bool, true, false, List, [], ◌∷◌, ◌++◌, map, refl, ap, sym, ◌∙◌}
-use Rattle.std.specs.List.{filter}
-use Rattle.std.proofs.lemmas.List.{map-append}
-use Rattle.std.proofs.lemmas.List.Elements.{filter-append}
-use Rattle.mum_base.specs.declared.number.{SessionId.SessionId}
-use Rattle.mum_msg_rule.specs.declared.{permission_query.PermissionQuery.PermissionQuery, text_message.TextMessage.TextMessage}
-use Rattle.mum_msg_state.specs.declared.{channel_remove.ChannelRemove.ChannelRemove, channel_state.ChannelState.ChannelState, codec_version.CodecVersion.CodecVersion, server_sync.ServerSync.ServerSync, user_remove.UserRemove.UserRemove, user_state.UserState.UserState, version.Version.Version}
-use Rattle.mum_users.specs.State.{has_number}
-use Rattle.mum_users.specs.declared.user.User.{User}
-use Rattle.mum_notify.specs.Parcels.{all_to_each, channel_frame, channel_gone_frame, channel_gone_payload, channel_payload, codecs_frame, codecs_payload, parcel, permissions_frame, permissions_payload, sync_frame, sync_payload, text_frame, text_payload, to_each, user_frame, user_gone_frame, user_gone_payload, user_payload, version_frame, version_payload}
-use Rattle.mum_notify.specs.declared.notice.Notice.{Notice}
-use Rattle.mum_client_laws.specs.Brought.{frame_of, frames_to}
-use Rattle.mum_client_laws.specs.Heard.{Message, OfChannel, OfChannelGone, OfCodecs, OfPermissions, OfSession, OfSessionGone, OfSync, OfText, OfVersion}
+use Rattle.mum_client_laws.proofs.Common.{◌≡◌, ℕ, ◌==◌, Bool, true, false, List, [], ◌∷◌, ◌++◌, map, refl, ap, sym, ◌∙◌, filter, map-append, filter-append, SessionId, PermissionQuery, TextMessage, ChannelRemove, ChannelState, CodecVersion, ServerSync, UserRemove, UserState, Version, has_number, User, all_to_each, channel_frame, channel_gone_frame, channel_gone_payload, channel_payload, codecs_frame, codecs_payload, parcel, permissions_frame, permissions_payload, sync_frame, sync_payload, text_frame, text_payload, to_each, user_frame, user_gone_frame, user_gone_payload, user_payload, version_frame, version_payload, Notice, frame_of, frames_to, Message, OfChannel, OfChannelGone, OfCodecs, OfPermissions, OfSession, OfSessionGone, OfSync, OfText, OfVersion}
 
 -- ---- each message is the frame of its type
 

@@ -1,3 +1,4 @@
+mod Common
 mod Lists
 mod Framed
 mod Folded

@@ -1,17 +1,5 @@
 -- Links, as pairs in both directions and as lists of partners.
-use Rattle.std.proofs.Common.{◌≡◌, ◌==◌, ◌&&◌, Bool, true, false, not, List, refl, ap, sym, ◌∙◌}
-use Rattle.std.specs.List.{Contains, filter, list_any}
-use Rattle.std.proofs.lemmas.Bool.{and_from, and_parts, eqb-true}
-use Rattle.std.proofs.lemmas.List.Folds.{list_any_at}
-use Rattle.mum_base.specs.Channels.{is_among}
-use Rattle.mum_base.specs.declared.number.ChannelId.{ChannelId}
-use Rattle.mum_tree.specs.Proper.{IsProper as IsProperTree}
-use Rattle.mum_tree.specs.State.{Pair, TreeState, are_linked, is_pair, partners, starts_at}
-use Rattle.mum_state.proofs.Each.{each_any, each_from_all}
-use Rattle.mum_state.proofs.Members.{any_mapped}
-use Rattle.mum_notify.specs.Channels.{numbers, partners_only_in}
-use Rattle.mum_notify.proofs.Families.{same_channel}
-use Rattle.mum_client_laws.specs.Heard.{is_listed}
+use Rattle.mum_client_laws.proofs.Common.{◌≡◌, ◌==◌, ◌&&◌, Bool, true, false, not, List, refl, ap, sym, ◌∙◌, Contains, filter, list_any, and_from, and_parts, eqb-true, list_any_at, is_among, ChannelId, IsProperTree, Pair, TreeState, are_linked, is_pair, partners, starts_at, each_any, each_from_all, any_mapped, numbers, partners_only_in, same_channel, is_listed}
 use Rattle.mum_client_laws.proofs.Lists.{any_both, any_kept}
 
 pub same_truth : (one other : Bool) → (one ≡ true → other ≡ true) → (other ≡ true → one ≡ true) → one ≡ other

@@ -1,26 +1,6 @@
 -- What messages on channels that are others leave of each link.
-use Rattle.std.proofs.Common.{◌≡◌, ◌⊎◌, ℕ, ◌==◌, ◌&&◌, ◌||◌, Bool, true, false, true≢false, not, cond, List, [], ◌∷◌, Option, Some, None, refl, ap, sym, ◌∙◌, subst, inl, inr, ⊎_elim}
-use Rattle.std.specs.List.{flat_map, list_any}
-use Rattle.std.specs.Option.{is_some, option_map, option_map_or}
-use Rattle.std.proofs.lemmas.Bool.{and_parts, both_ways, eq-eqb, eqb-true}
-use Rattle.std.proofs.lemmas.List.Sums.{fold-append}
-use Rattle.mum_base.specs.declared.number.ChannelId.{ChannelId}
-use Rattle.mum_msg_state.specs.declared.channel_state.ChannelState.{ChannelState}
-use Rattle.mum_tree.specs.Proper.{IsBetween, IsProper as IsProperTree}
-use Rattle.mum_tree.specs.Rows.{is_there, row_of}
-use Rattle.mum_tree.specs.State.{TreeState, are_linked, is_pair}
-use Rattle.mum_tree.specs.declared.channel.Channel.{Channel}
-use Rattle.mum_tree.specs.declared.channel.Row.{Row}
-use Rattle.mum_state.proofs.Each.{each_any, each_from_all}
-use Rattle.mum_notify.specs.Channels.{channel_change_told, channel_difference, channel_of, if_it_tells, numbers, partners_only_in, tells_of_channel}
-use Rattle.mum_notify.proofs.Families.{same_channel}
-use Rattle.mum_notify.proofs.Standing.{apart_sym}
-use Rattle.mum_client_laws.specs.Heard.{has_any, is_listed, link_heard, links_heard, other_end}
-use Rattle.mum_client_laws.specs.Known.{Pairs}
-use Rattle.mum_client_laws.proofs.ChannelsTold.{IsUntold, number_of, untold}
-use Rattle.mum_client_laws.proofs.Folded.{told_links}
-use Rattle.mum_client_laws.proofs.Linked.{linked_both, only_partner}
-use Rattle.mum_client_laws.proofs.Reported.{empty_is}
+use Rattle.mum_client_laws.proofs.Common.{◌≡◌, ◌⊎◌, ℕ, ◌==◌, ◌&&◌, ◌||◌, Bool, true, false, true≢false, not, cond, List, [], ◌∷◌, Option, Some, None, refl, ap, sym, ◌∙◌, subst, inl, inr, ⊎_elim, flat_map, list_any, is_some, option_map, option_map_or, and_parts, both_ways, eq-eqb, eqb-true, fold-append, ChannelId, ChannelState, IsBetween, IsProperTree, is_there, row_of, TreeState, are_linked, is_pair, Channel, Row, each_any, each_from_all, channel_change_told, channel_difference, channel_of, if_it_tells, numbers, partners_only_in, tells_of_channel, same_channel, apart_sym, has_any, is_listed, link_heard, links_heard, other_end, Pairs}
+use Rattle.mum_client_laws.proofs.{ChannelsTold.IsUntold, ChannelsTold.number_of, ChannelsTold.untold, Folded.told_links, Linked.linked_both, Linked.only_partner, Reported.empty_is}
 
 -- ---- links that are there, or come, or go
 

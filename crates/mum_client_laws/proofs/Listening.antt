@@ -1,38 +1,6 @@
 -- Whoever listens knows what is, over any edits.
-use Rattle.std.proofs.Common.{◌≡◌, ◌==◌, ◌&&◌, ◌||◌, ℕ, Bool, true, false, not, cond, List, [], ◌∷◌, ◌++◌, map, Option, Some, None, refl, ap, sym, ◌∙◌}
-use Rattle.std.specs.List.{filter, flat_map}
-use Rattle.std.proofs.lemmas.Bool.{and_parts, eq-eqb, eqb-true, true≢false}
-use Rattle.std.proofs.lemmas.List.{append-nil}
-use Rattle.std.specs.Option.{is_some}
-use Rattle.std.proofs.lemmas.List.Sums.{fold-append}
-use Rattle.mum_base.specs.declared.number.{AccountId.AccountId, SessionId.SessionId, Slot.Slot}
-use Rattle.mum_users.specs.Sessions.{next_number, session_of}
-use Rattle.mum_users.specs.State.{has_number}
-use Rattle.mum_users.specs.declared.user.User.{User}
-use Rattle.mum_state.specs.Applied.{applied}
-use Rattle.mum_state.specs.Fits.{fits}
-use Rattle.mum_state.specs.Named.{given}
-use Rattle.mum_state.specs.Proper.{IsProper}
-use Rattle.mum_state.specs.State.{StateValue}
-use Rattle.mum_state.specs.declared.edit.Edit.{Edit}
-use Rattle.mum_state.specs.declared.edit.Edit.TheVariants.{Join, RemoveChannel}
-use Rattle.mum_state.proofs.Fitting.{fit_parts}
-use Rattle.mum_state.proofs.Keeping.{fit_proper}
-use Rattle.mum_notify.specs.Notices.{notices, others}
-use Rattle.mum_notify.specs.Parcels.{parcel, to_each, user_frame}
-use Rattle.mum_notify.specs.Sync.{sync_block}
-use Rattle.mum_notify.specs.Users.{user_told}
-use Rattle.mum_notify.specs.declared.notice.Notice.{Notice}
-use Rattle.mum_client_laws.specs.Brought.{Brings, frames_to}
-use Rattle.mum_client_laws.specs.Heard.{all_heard, heard}
-use Rattle.mum_client_laws.specs.Known.{Known, nothing, public}
-use Rattle.mum_client_laws.specs.Sessions.{NewcomersKnowWhatIs, StaysDuring, WhoJoinsKnowsWhatIs, WhoListensKnowsWhatIs, WhoStaysKnowsWhatIs, after_all, is_here, sent_of}
-use Rattle.mum_client_laws.proofs.ChannelsAfter.{channels_known}
-use Rattle.mum_client_laws.proofs.Framed.{both_framed, frames_append, frames_posted}
-use Rattle.mum_client_laws.proofs.Membership.{members}
-use Rattle.mum_client_laws.proofs.Newcomers.{block_brings}
-use Rattle.mum_client_laws.proofs.Removing.{removal_known}
-use Rattle.mum_client_laws.proofs.Staying.{brings}
+use Rattle.mum_client_laws.proofs.Common.{◌≡◌, ◌==◌, ◌&&◌, ◌||◌, ℕ, Bool, true, false, not, cond, List, [], ◌∷◌, ◌++◌, map, Option, Some, None, refl, ap, sym, ◌∙◌, filter, flat_map, and_parts, eq-eqb, eqb-true, true≢false, append-nil, is_some, fold-append, AccountId, SessionId, Slot, next_number, session_of, has_number, User, applied, fits, given, IsProper, StateValue, Edit, Join, RemoveChannel, fit_parts, fit_proper, notices, others, parcel, to_each, user_frame, sync_block, user_told, Notice, Brings, frames_to, all_heard, heard, Known, nothing, public, NewcomersKnowWhatIs, StaysDuring, WhoJoinsKnowsWhatIs, WhoListensKnowsWhatIs, WhoStaysKnowsWhatIs, after_all, is_here, sent_of}
+use Rattle.mum_client_laws.proofs.{ChannelsAfter.channels_known, Framed.both_framed, Framed.frames_append, Framed.frames_posted, Membership.members, Newcomers.block_brings, Removing.removal_known, Staying.brings}
 
 pub found_row : (state : StateValue) (session : SessionId) → is_here state session ≡ true → (user : User) × (session_of state.roster session ≡ Some user)
 found_row state session here = step (session_of state.roster session) refl here

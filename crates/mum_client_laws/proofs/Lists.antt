@@ -1,11 +1,5 @@
 -- Lists in which one fits at most, or none.
-use Rattle.std.proofs.Common.{◌≡◌, ◌≤◌, ◌||◌, ◌&&◌, ℕ, Bool, true, false, cond, List, [], ◌∷◌, Some, None, refl, ap, sym, ◌∙◌, arith, subst}
-use Rattle.std.specs.List.{All, Contains, count_by, filter, find, list_any}
-use Rattle.std.proofs.lemmas.Bool.{both_ways}
-use Rattle.std.proofs.lemmas.List.Elements.{All-cons, All-contains, All-nil, Contains-append_right, Contains-get_or}
-use Rattle.mum_users.proofs.Counts.{count_by-cons}
-use Rattle.mum_state.specs.Named.{given}
-use Rattle.mum_state.proofs.Each.{Each, none_found}
+use Rattle.mum_client_laws.proofs.Common.{◌≡◌, ◌≤◌, ◌||◌, ◌&&◌, ℕ, Bool, true, false, cond, List, [], ◌∷◌, Some, None, refl, ap, sym, ◌∙◌, arith, subst, All, Contains, count_by, filter, find, list_any, both_ways, All-cons, All-contains, All-nil, Contains-append_right, Contains-get_or, count_by-cons, given, Each, none_found}
 
 pub none_counted : {X : Type 0} (p : X → Bool) (xs : List X) → count_by p xs ≡ 0 → filter p xs ≡ []
 none_counted p [] none = refl

@@ -1,26 +1,6 @@
 -- A text goes to nobody for whom it is not meant.
-use Rattle.std.proofs.Common.{◌≡◌, ◌≢◌, ℕ, ◌==◌, ◌||◌, Bool, true, false, not, cond, List, [], ◌∷◌, map, Option, Some, None, refl, ap, sym, ◌∙◌, subst, inl, inr, ⊎_elim}
-use Rattle.std.specs.List.{All, Contains, filter, list_any}
-use Rattle.std.specs.Option.{option_map_or}
-use Rattle.std.proofs.lemmas.Bool.{and_parts, both_ways, eq-eqb, eqb-true, false≢true, not-true, or_cases}
-use Rattle.std.proofs.lemmas.List.{append-nil}
-use Rattle.std.proofs.lemmas.List.Elements.{All-contains_itself, All-cons, All-filter, All-nil, All-weaker}
-use Rattle.mum_base.specs.Channels.{is_among}
-use Rattle.mum_base.specs.declared.number.{ChannelId.ChannelId, SessionId.SessionId}
-use Rattle.mum_base.specs.declared.perm.TheConstants.Perm.{TEXT_MESSAGE}
-use Rattle.mum_policy.specs.Walk.{holds}
-use Rattle.mum_tree.specs.Rows.{is_below}
-use Rattle.mum_users.specs.declared.user.User.{User}
-use Rattle.mum_users.proofs.Slots.{SlotsRise-filter}
-use Rattle.mum_state.specs.Permissions.{perm_of}
-use Rattle.mum_state.specs.State.{StateValue}
-use Rattle.mum_state.specs.declared.edit.Edit.TheVariants.{Text}
-use Rattle.mum_state.proofs.Each.{each_any, each_from_all}
-use Rattle.mum_notify.specs.Texts.{is_for, is_in_trees, is_named, may_text, text_parcels, text_told}
-use Rattle.mum_notify.proofs.Families.{same_channel}
-use Rattle.mum_client_laws.specs.SentTexts.{IsMeant, MayText, TextsGoToNobodyElse, notice_to}
-use Rattle.mum_client_laws.proofs.Framed.{text_framed}
-use Rattle.mum_client_laws.proofs.Watching.{same_session}
+use Rattle.mum_client_laws.proofs.Common.{◌≡◌, ◌≢◌, ℕ, ◌==◌, ◌||◌, Bool, true, false, not, cond, List, [], ◌∷◌, map, Option, Some, None, refl, ap, sym, ◌∙◌, subst, inl, inr, ⊎_elim, All, Contains, filter, list_any, option_map_or, and_parts, both_ways, eq-eqb, eqb-true, false≢true, not-true, or_cases, append-nil, All-contains_itself, All-cons, All-filter, All-nil, All-weaker, is_among, ChannelId, SessionId, TEXT_MESSAGE, holds, is_below, User, SlotsRise-filter, perm_of, StateValue, Text, each_any, each_from_all, is_for, is_in_trees, is_named, may_text, text_parcels, text_told, same_channel, IsMeant, MayText, TextsGoToNobodyElse, notice_to}
+use Rattle.mum_client_laws.proofs.{Framed.text_framed, Watching.same_session}
 
 pub all_passing : {X : Type 0} (p : X → Bool) (xs : List X) → All (λ x. p x ≡ true) (filter p xs)
 all_passing p [] = All-nil (λ x. p x ≡ true)

@@ -1,29 +1,5 @@
 -- Who is there after an edit, and that whoever stays keeps its name and its account.
-use Rattle.std.proofs.Common.{◌≡◌, ◌+◌, ◌≤◌, ◌==◌, ◌&&◌, ◌||◌, Bool, true, false, not, cond, List, Some, None, refl, ap, sym, ◌∙◌, arith}
-use Rattle.std.specs.List.{filter, list_any}
-use Rattle.std.specs.Option.{is_some}
-use Rattle.std.proofs.lemmas.Bool.{both_ways, eqb-true, not-false}
-use Rattle.mum_base.specs.declared.number.{SessionId.SessionId}
-use Rattle.mum_tree.specs.Refusals.{parent_of}
-use Rattle.mum_tree.specs.Rows.{is_below}
-use Rattle.mum_users.specs.Edit.{changed_user}
-use Rattle.mum_users.specs.Sessions.{free_slot, next_number, next_slot, session_of}
-use Rattle.mum_users.specs.State.{has_number, joining}
-use Rattle.mum_users.specs.declared.user.User.{User}
-use Rattle.mum_state.specs.Applied.{applied}
-use Rattle.mum_state.specs.Parts.{user_parts}
-use Rattle.mum_state.specs.Proper.{IsProper}
-use Rattle.mum_state.specs.Set.{moved_up, set_by}
-use Rattle.mum_state.specs.State.{StateValue}
-use Rattle.mum_state.specs.declared.edit.Edit.{Edit}
-use Rattle.mum_state.specs.declared.edit.Edit.TheVariants.{Join, Kick, Leave, MakeChannel, RemoveChannel, SetTarget, SetTokens, SetUser}
-use Rattle.mum_state.proofs.Descent.{applied_descends}
-use Rattle.mum_state.proofs.Each.{Each, each_filter, each_find, each_insert, each_map, each_so, some_found}
-use Rattle.mum_state.proofs.Listed.{any_map}
-use Rattle.mum_state.proofs.Members.{any_inserted}
-use Rattle.mum_state.proofs.Renewing.{targeted_sessions}
-use Rattle.mum_state.proofs.Seats.{session_alone, session_known}
-use Rattle.mum_state.proofs.Suppressed.{heard as with_silence, heard_after, silent_after}
+use Rattle.mum_client_laws.proofs.Common.{◌≡◌, ◌+◌, ◌≤◌, ◌==◌, ◌&&◌, ◌||◌, Bool, true, false, not, cond, List, Some, None, refl, ap, sym, ◌∙◌, arith, filter, list_any, is_some, both_ways, eqb-true, not-false, SessionId, parent_of, is_below, changed_user, free_slot, next_number, next_slot, session_of, has_number, joining, User, applied, user_parts, IsProper, moved_up, set_by, StateValue, Edit, Join, Kick, Leave, MakeChannel, RemoveChannel, SetTarget, SetTokens, SetUser, applied_descends, Each, each_filter, each_find, each_insert, each_map, each_so, some_found, any_stays, any_inserted, targeted_sessions, session_alone, session_known, with_silence, heard_after, silent_after}
 use Rattle.mum_client_laws.proofs.Lists.{any_kept}
 
 -- ---- who is there
@@ -65,17 +41,17 @@ set_members state (Leave one) session = left_members session one state.roster.se
 set_members state (Kick one actor reason ban) session = left_members session one state.roster.sessions
 set_members state (MakeChannel id parent name temporary info None) session = all_and _
 set_members state (MakeChannel id parent name true info (Some maker)) session =
-    any_map (has_number session) (λ user. cond (has_number maker user) (record user { channel = id }) user)
+    any_stays (has_number session) (λ user. cond (has_number maker user) (record user { channel = id }) user)
     (λ user. kept_number session (has_number maker user) user (record user { channel = id }) refl) state.roster.sessions ∙ all_and _
 set_members state (MakeChannel id parent name false info (Some maker)) session = all_and _
 set_members state (RemoveChannel id actor) session =
-    any_map (has_number session) (moved_up state.tree id)
+    any_stays (has_number session) (moved_up state.tree id)
     (λ user. kept_number session (is_below state.tree.channels id user.channel) user (record user { channel = parent_of state.tree id }) refl) state.roster.sessions ∙ all_and _
 set_members state (SetUser one actor channel mute deaf clear_suppress priority self_mute self_deaf recording comment context listen unlisten) session =
     let f : User → User = changed_user (user_parts channel mute deaf priority self_mute self_deaf recording comment context listen unlisten) in
-    any_map (has_number session) (λ user. cond (has_number one user) (f user) user) (λ user. kept_number session (has_number one user) user (f user) refl) state.roster.sessions ∙ all_and _
+    any_stays (has_number session) (λ user. cond (has_number one user) (f user) user) (λ user. kept_number session (has_number one user) user (f user) refl) state.roster.sessions ∙ all_and _
 set_members state (SetTokens one tokens) session =
-    any_map (has_number session) (λ user. cond (has_number one user) (record user { tokens = tokens }) user)
+    any_stays (has_number session) (λ user. cond (has_number one user) (record user { tokens = tokens }) user)
     (λ user. kept_number session (has_number one user) user (record user { tokens = tokens }) refl) state.roster.sessions ∙ all_and _
 set_members state (SetTarget one id target) session =
     ap (λ (users : List User). list_any (has_number session) users) (targeted_sessions state.roster one id target) ∙ all_and _
@@ -86,7 +62,7 @@ pub members : (state : StateValue) (edit : Edit) (session : SessionId)
 members state edit session =
     some_found (has_number session) (applied state edit).roster.sessions
     ∙ ap (λ (s : StateValue). list_any (has_number session) s.roster.sessions) (heard_after state edit (set_by state edit))
-    ∙ any_map (has_number session) (with_silence (silent_after state edit (set_by state edit))) (λ user. refl) (set_by state edit).roster.sessions
+    ∙ any_stays (has_number session) (with_silence (silent_after state edit (set_by state edit))) (λ user. refl) (set_by state edit).roster.sessions
     ∙ set_members state edit session
     ∙ ap (there_after state edit session) (sym (some_found (has_number session) state.roster.sessions))
 
@@ -94,7 +70,7 @@ on_or : (a : Bool) → (a || true) ≡ true
 on_or true = refl
 on_or false = refl
 
--- whoever is there no longer was put out
+-- whoever is there no longer was kicked
 pub gone_is_out : (state : StateValue) (edit : Edit) (session : SessionId) → is_some (session_of state.roster session) ≡ true
     → is_some (session_of (applied state edit).roster session) ≡ false → puts_out edit session ≡ true
 gone_is_out state edit session was none =

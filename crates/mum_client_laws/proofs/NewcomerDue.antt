@@ -1,43 +1,6 @@
 -- A newcomer is sent what is due to it, and the others are sent that it came.
-use Rattle.std.proofs.Common.{◌≡◌, ℕ, zero, suc, Bool, true, false, not, cond, List, [], ◌∷◌, ◌++◌, map, Option, Some, None, refl, ap, sym, ◌∙◌, subst, true≢false}
-use Rattle.std.specs.List.{filter, flat_map}
-use Rattle.std.specs.Option.{is_some, option_map}
-use Rattle.std.proofs.lemmas.List.{append-nil, map-append}
-use Rattle.std.proofs.lemmas.List.Concat.{flat_map_single}
-use Rattle.mum_base.specs.declared.number.{ChannelId.ChannelId, SessionId.SessionId}
-use Rattle.mum_base.specs.declared.number.TheConstants.ChannelId.{ROOT}
-use Rattle.mum_msg_state.specs.declared.{channel_state.ChannelState.ChannelState, user_state.UserState.UserState}
-use Rattle.mum_tree.specs.Rows.{is_there, row_of}
-use Rattle.mum_tree.specs.State.{Pair, partners, starts_at}
-use Rattle.mum_tree.specs.declared.channel.Row.{Row}
-use Rattle.mum_tree.specs.declared.channel.TheConstants.{PATH_LIMIT}
-use Rattle.mum_tree.proofs.Changed.{number_found}
-use Rattle.mum_users.specs.Sessions.{session_of}
-use Rattle.mum_users.specs.State.{has_number}
-use Rattle.mum_users.specs.declared.user.User.{User}
-use Rattle.mum_state.specs.Kinds.{is_empty}
-use Rattle.mum_state.specs.Named.{given}
-use Rattle.mum_state.specs.Permissions.{actor_from, granted_to}
-use Rattle.mum_state.specs.Proper.{IsProper}
-use Rattle.mum_state.specs.State.{StateValue}
-use Rattle.mum_state.proofs.Each.{Each, each_append, each_filter, each_so}
-use Rattle.mum_state.proofs.Listed.{map_twice}
-use Rattle.mum_notify.specs.Channels.{channel_ids, channel_of, channel_told, children, family, has_links, if_it_tells, links_told, numbers, is_child}
-use Rattle.mum_notify.specs.Notices.{others}
-use Rattle.mum_notify.specs.Parcels.{parcel, to_each, user_frame}
-use Rattle.mum_notify.specs.Sync.{all_links_told, sync_block, sync_parcels, tree_order, tree_told, welcome_told}
-use Rattle.mum_notify.specs.Users.{user_told}
-use Rattle.mum_notify.specs.declared.notice.Notice.{Notice}
-use Rattle.mum_notify.proofs.Sent.{root_there}
-use Rattle.mum_client_laws.specs.Brought.{frame_of}
-use Rattle.mum_client_laws.specs.Heard.{Message, OfChannel, OfSession, OfSync, has_any}
-use Rattle.mum_client_laws.specs.Recipients.{AboutChannel, AboutCodecs, AboutLinks, AboutSession, AboutVersion, AboutWelcome, AreExactly, Due, Subject, all_channels, due_of_join, due_to, due_to_newcomer, has_link, subject_of, about_welcome, unless_empty, with_all_below}
-use Rattle.mum_client_laws.proofs.Exactly.{every, exactly_both, exactly_each, frame_meets, pieces_kept}
-use Rattle.mum_client_laws.proofs.Framed.{session_framed}
-use Rattle.mum_client_laws.proofs.GoneDue.{ids_there}
-use Rattle.mum_client_laws.proofs.Newcomers.{all_sessions, block_framed, channel_messages, messages, number_of, own_rows}
-use Rattle.mum_client_laws.proofs.SessionsDue.{some_in, some_kept}
-use Rattle.mum_policy.specs.Member.{Actor}
+use Rattle.mum_client_laws.proofs.Common.{◌≡◌, ℕ, zero, suc, Bool, true, false, not, cond, List, [], ◌∷◌, ◌++◌, map, Option, Some, None, refl, ap, sym, ◌∙◌, subst, true≢false, filter, flat_map, is_some, option_map, append-nil, map-append, flat_map_single, ChannelId, SessionId, ROOT, ChannelState, UserState, is_there, row_of, Pair, partners, starts_at, Row, PATH_LIMIT, number_found, session_of, has_number, User, is_empty, given, actor_from, granted_to, IsProper, StateValue, Each, each_append, each_filter, each_so, map_twice, channel_ids, channel_of, channel_told, children, family, has_links, if_it_tells, links_told, numbers, is_child, others, parcel, to_each, user_frame, all_links_told, sync_block, sync_parcels, tree_order, tree_told, welcome_told, user_told, Notice, root_there, frame_of, Message, OfChannel, OfSession, OfSync, has_any, AboutChannel, AboutCodecs, AboutLinks, AboutSession, AboutVersion, AboutWelcome, AreExactly, Due, Subject, all_channels, due_of_join, due_to, due_to_newcomer, has_link, subject_of, about_welcome, unless_empty, with_all_below, Actor}
+use Rattle.mum_client_laws.proofs.{Exactly.every, Exactly.exactly_both, Exactly.exactly_each, Exactly.frame_meets, Exactly.pieces_kept, Framed.session_framed, GoneDue.ids_there, Newcomers.all_sessions, Newcomers.block_framed, Newcomers.channel_messages, Newcomers.messages, Newcomers.number_of, Newcomers.own_rows, SessionsDue.some_in, SessionsDue.some_kept}
 
 -- ---- the order of channels
 

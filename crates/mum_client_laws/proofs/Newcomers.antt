@@ -1,36 +1,6 @@
 -- Whoever is sent the sync block knows what is.
-use Rattle.std.proofs.Common.{◌≡◌, ℕ, ◌==◌, Bool, true, false, cond, List, [], ◌∷◌, ◌++◌, map, fold, Option, Some, None, refl, ap, sym, ◌∙◌}
-use Rattle.std.specs.List.{filter, flat_map}
-use Rattle.std.specs.Option.{option_map}
-use Rattle.std.proofs.Math.Path.{fun_ext}
-use Rattle.std.proofs.lemmas.Bool.{eq-eqb}
-use Rattle.std.proofs.lemmas.List.{append-nil, map-append}
-use Rattle.std.proofs.lemmas.List.Concat.{flat_map_single}
-use Rattle.std.proofs.lemmas.List.Sums.{fold-append}
-use Rattle.mum_base.specs.declared.number.{ChannelId.ChannelId, SessionId.SessionId}
-use Rattle.mum_msg_state.specs.declared.{channel_state.ChannelState.ChannelState, user_state.UserState.UserState}
-use Rattle.mum_users.specs.Listeners.{listens}
-use Rattle.mum_users.specs.Sessions.{session_of}
-use Rattle.mum_users.specs.State.{has_number}
-use Rattle.mum_users.specs.declared.user.User.{User}
-use Rattle.mum_state.specs.Named.{given}
-use Rattle.mum_state.specs.Proper.{IsProper}
-use Rattle.mum_state.specs.State.{StateValue}
-use Rattle.mum_state.proofs.Each.{found_passes}
-use Rattle.mum_state.proofs.Listed.{map_twice}
-use Rattle.mum_notify.specs.Parcels.{channel_frame, codecs_frame, parcel, sync_frame, user_frame, version_frame}
-use Rattle.mum_notify.specs.Sync.{all_links_told, server_codecs, server_version, sync_block, sync_frames, sync_parcels, tree_told, welcome_told}
-use Rattle.mum_notify.specs.Users.{user_told}
-use Rattle.mum_client_laws.specs.Brought.{Brings, frame_of, frames_to}
-use Rattle.mum_client_laws.specs.Heard.{Message, OfChannel, OfCodecs, OfSession, OfSync, OfVersion, all_heard, heard, is_listed, listening_after, plain_session, session_heard}
-use Rattle.mum_client_laws.specs.Known.{KnownSession, nothing, numbered_channel, numbered_session, public, public_session}
-use Rattle.mum_client_laws.proofs.Closing.{IsKnownTree}
-use Rattle.mum_client_laws.proofs.Folded.{heard_channels, heard_sessions, listens_at, session_at, told_channels, told_links, told_listening, told_listens, told_of_own, told_session, told_sessions}
-use Rattle.mum_client_laws.proofs.Framed.{all_framed, channel_framed, codecs_framed, session_framed, sync_framed, version_framed}
-use Rattle.mum_client_laws.proofs.Lists.{only_given}
-use Rattle.mum_client_laws.proofs.Reported.{absent_listens, added_alone, listened_is, newcomer_heard, told_other, told_other_listens}
-use Rattle.mum_client_laws.proofs.SyncTree.{sync_tree}
-use Rattle.mum_client_laws.proofs.Watching.{same_session}
+use Rattle.mum_client_laws.proofs.Common.{◌≡◌, ℕ, ◌==◌, Bool, true, false, cond, List, [], ◌∷◌, ◌++◌, map, fold, Option, Some, None, refl, ap, sym, ◌∙◌, filter, flat_map, option_map, fun_ext, eq-eqb, append-nil, map-append, flat_map_single, fold-append, ChannelId, SessionId, ChannelState, UserState, listens, session_of, has_number, User, given, IsProper, StateValue, found_passes, map_twice, channel_frame, codecs_frame, parcel, sync_frame, user_frame, version_frame, all_links_told, server_codecs, server_version, sync_block, sync_frames, sync_parcels, tree_told, welcome_told, user_told, Brings, frame_of, frames_to, Message, OfChannel, OfCodecs, OfSession, OfSync, OfVersion, all_heard, heard, is_listed, listening_after, plain_session, session_heard, KnownSession, nothing, numbered_channel, numbered_session, public, public_session}
+use Rattle.mum_client_laws.proofs.{Closing.IsKnownTree, Folded.heard_channels, Folded.heard_sessions, Folded.listens_at, Folded.session_at, Folded.told_channels, Folded.told_links, Folded.told_listening, Folded.told_listens, Folded.told_of_own, Folded.told_session, Folded.told_sessions, Framed.all_framed, Framed.channel_framed, Framed.codecs_framed, Framed.session_framed, Framed.sync_framed, Framed.version_framed, Lists.only_given, Reported.absent_listens, Reported.added_alone, Reported.listened_is, Reported.newcomer_heard, Reported.told_other, Reported.told_other_listens, SyncTree.sync_tree, Watching.same_session}
 
 module _ (state : StateValue) (proper : IsProper state) where
   abbrev pub say : User → List UserState

@@ -1,40 +1,7 @@
 -- What the messages of a removed channel, and of the temporary ones below it, leave of channels and links.
-use Rattle.std.proofs.Common.{◌≡◌, ℕ, zero, suc, ◌==◌, ◌&&◌, ◌||◌, Bool, true, false, true≢false, not, cond, List, [], ◌∷◌, Option, Some, None, refl, ap, sym, ◌∙◌, subst}
-use Rattle.std.specs.List.{filter, list_any}
-use Rattle.std.specs.Option.{is_some, option_map, option_map_or}
-use Rattle.std.proofs.Math.Path.{fun_ext}
-use Rattle.std.proofs.lemmas.Bool.{and_parts, both_ways, eq-eqb, eqb-true, not-false, not-true}
-use Rattle.mum_base.specs.Channels.{is_among}
-use Rattle.mum_base.specs.declared.number.{ChannelId.ChannelId, SessionId.SessionId}
-use Rattle.mum_base.specs.declared.number.TheConstants.ChannelId.{ROOT}
-use Rattle.mum_tree.specs.Proper.{IsProper as IsProperTree, IsUnderLasting}
-use Rattle.mum_tree.specs.Rows.{is_below, is_root, is_temporary, is_there, number, row_of, upward}
-use Rattle.mum_tree.specs.State.{TreeState, are_linked, without_subtree}
-use Rattle.mum_tree.specs.declared.channel.Row.{Row}
-use Rattle.mum_tree.specs.declared.channel.TheConstants.{PATH_LIMIT}
-use Rattle.mum_tree.proofs.Changed.{number_found}
-use Rattle.mum_tree.proofs.Shrunk.{list_any-reverse}
-use Rattle.mum_tree.proofs.Upward.{upward_at}
-use Rattle.mum_state.specs.Applied.{applied}
-use Rattle.mum_state.specs.Fits.{fits}
-use Rattle.mum_state.specs.Proper.{IsProper}
-use Rattle.mum_state.specs.State.{StateValue}
-use Rattle.mum_state.specs.declared.edit.Edit.{Edit}
-use Rattle.mum_state.specs.declared.edit.Edit.TheVariants.{RemoveChannel}
-use Rattle.mum_state.proofs.Closed.{found_passes}
-use Rattle.mum_state.proofs.Each.{Each, each_so, some_found}
-use Rattle.mum_state.proofs.Emptying.{alone}
-use Rattle.mum_state.proofs.Fitting.{fit_parts}
-use Rattle.mum_state.proofs.Gone.{there_without_subtree}
-use Rattle.mum_state.proofs.Members.{any_mapped}
-use Rattle.mum_notify.specs.Channels.{channel_ids}
-use Rattle.mum_notify.specs.Gone.{channel_gone, channels_gone, is_told_gone}
-use Rattle.mum_notify.proofs.Families.{same_channel}
-use Rattle.mum_notify.proofs.Standing.{applied_tree}
-use Rattle.mum_client_laws.specs.Heard.{channels_left, goes_with, links_left, upward as known_upward}
-use Rattle.mum_client_laws.specs.Known.{Channels, KnownChannel, Pairs, numbered_channel, public_channel}
-use Rattle.mum_client_laws.proofs.Closing.{IsKnownTree, channels_of, goes_below, gone_channels, gone_links, linked_there, linked_within, links_of, row_without, temporary_there}
-use Rattle.mum_client_laws.proofs.Lists.{any_kept}
+use Rattle.mum_client_laws.proofs.Common.{◌≡◌, ℕ, zero, suc, ◌==◌, ◌&&◌, ◌||◌, Bool, true, false, true≢false, not, cond, List, [], ◌∷◌, Option, Some, None, refl, ap, sym, ◌∙◌, subst, filter, list_any, is_some, option_map, option_map_or, fun_ext, and_parts, both_ways, eq-eqb, eqb-true, not-false, not-true, is_among, ChannelId, SessionId, ROOT, IsProperTree, IsUnderLasting, is_below, is_root, is_temporary, is_there, number, row_of, upward, TreeState, are_linked, without_subtree, Row, PATH_LIMIT, number_found, list_any-reverse, upward_at, applied, fits, IsProper, StateValue, Edit, RemoveChannel, Each, each_so, some_found, alone, fit_parts, there_without_subtree, any_mapped, channel_ids, channel_gone, channels_gone, is_told_gone, same_channel, applied_tree, channels_left, goes_with, links_left, known_upward, Channels, KnownChannel, Pairs, numbered_channel, public_channel}
+use Rattle.mum_state.proofs.Public.{found_row_holds}
+use Rattle.mum_client_laws.proofs.{Closing.IsKnownTree, Closing.channels_of, Closing.goes_below, Closing.gone_channels, Closing.gone_links, Closing.linked_there, Closing.linked_within, Closing.links_of, Closing.row_without, Closing.temporary_there, Lists.any_kept}
 
 -- ---- without channels that have none below them
 
@@ -99,7 +66,7 @@ module _ (tree : TreeState) (top : ChannelId) (proper : IsProperTree tree) where
     where
       kept : (row : Row) → row_of tree.channels at ≡ Some row → (at.0 == ROOT.0) ≡ false → (b : Bool) → gone row.channel.parent.0 ≡ b → b ≡ false
       kept row there low true is =
-          let lasts : IsUnderLasting tree.channels row = found_passes (IsUnderLasting tree.channels) tree.channels at row proper.lasting there in
+          let lasts : IsUnderLasting tree.channels row = found_row_holds (IsUnderLasting tree.channels) tree.channels at row proper.lasting there in
           absurd (both_ways (is_temporary tree.channels row.channel.parent)
           (lasts (λ (same : number row ≡ ROOT.0). both_ways (at.0 == ROOT.0) low (eq-eqb at.0 ROOT.0 (sym (number_found tree.channels at row there) ∙ same))))
           (so_far.temporary row.channel.parent is))

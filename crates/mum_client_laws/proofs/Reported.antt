@@ -1,33 +1,6 @@
 -- What a session is to whoever knew it before an edit and got the messages on sessions.
-use Rattle.std.proofs.Common.{◌≡◌, ℕ, ◌==◌, ◌&&◌, ◌||◌, Bool, true, false, true≢false, not, cond, length, List, [], ◌∷◌, fold, Option, Some, None, refl, ap, sym, ◌∙◌, arith}
-use Rattle.std.specs.List.{count_by, filter, flat_map, list_any}
-use Rattle.std.specs.Option.{is_some, option_map, option_map_or, unwrap_or}
-use Rattle.std.specs.Str.{bytes_eq}
-use Rattle.std.proofs.lemmas.Bool.{eq-eqb, eqb-true, not-false, or_parts}
-use Rattle.std.proofs.lemmas.List.{append-nil}
-use Rattle.std.proofs.lemmas.Slice.Eq.{bytes_eq-Decides}
-use Rattle.mum_base.specs.declared.number.{AccountId.AccountId, ChannelId.ChannelId, SessionId.SessionId}
-use Rattle.mum_msg_state.specs.declared.{user_state.UserState.UserState}
-use Rattle.mum_users.specs.Listeners.{listens, pairs_of}
-use Rattle.mum_users.specs.Sessions.{session_of}
-use Rattle.mum_users.specs.State.{RosterState, has_number, is_of_session}
-use Rattle.mum_users.specs.Proper.{IsProper as IsProperRoster}
-use Rattle.mum_users.specs.declared.listening.ListenerPair.{ListenerPair}
-use Rattle.mum_users.specs.declared.user.User.{User}
-use Rattle.mum_users.proofs.Counts.{count_by-cons}
-use Rattle.mum_state.specs.Kinds.{is_empty}
-use Rattle.mum_state.specs.State.{StateValue}
-use Rattle.mum_state.specs.declared.edit.Edit.{Edit}
-use Rattle.mum_state.proofs.Each.{Each, none_found}
-use Rattle.mum_state.proofs.Members.{any_mapped}
-use Rattle.mum_notify.specs.Channels.{if_it_tells, said_unless}
-use Rattle.mum_notify.specs.Users.{flag_told, gives_comment, listened, listened_only_in, said_if_set, tells_of_user, user_change_told, user_difference, user_told}
-use Rattle.mum_notify.proofs.Families.{same_channel}
-use Rattle.mum_notify.proofs.Standing.{apart_sym}
-use Rattle.mum_client_laws.specs.Heard.{is_listed, listening_after, plain_session, session_after, session_heard}
-use Rattle.mum_client_laws.specs.Known.{KnownSession, public_session}
-use Rattle.mum_client_laws.proofs.Folded.{listens_at, session_at}
-use Rattle.mum_client_laws.proofs.Lists.{any_both, any_kept, none_counted}
+use Rattle.mum_client_laws.proofs.Common.{◌≡◌, ℕ, ◌==◌, ◌&&◌, ◌||◌, Bool, true, false, true≢false, not, cond, length, List, [], ◌∷◌, fold, Option, Some, None, refl, ap, sym, ◌∙◌, arith, count_by, filter, flat_map, list_any, is_some, option_map, option_map_or, unwrap_or, bytes_eq, eq-eqb, eqb-true, not-false, or_parts, append-nil, bytes_eq-Decides, AccountId, ChannelId, SessionId, UserState, listens, pairs_of, session_of, RosterState, has_number, is_of_session, IsProperRoster, ListenerPair, User, count_by-cons, is_empty, StateValue, Edit, Each, none_found, any_mapped, if_it_tells, said_unless, flag_told, gives_comment, listened, listened_only_in, said_if_set, tells_of_user, user_change_told, user_difference, user_told, same_channel, apart_sym, is_listed, listening_after, plain_session, session_after, session_heard, KnownSession, public_session}
+use Rattle.mum_client_laws.proofs.{Folded.listens_at, Folded.session_at, Lists.any_both, Lists.any_kept, Lists.none_counted}
 
 -- ---- values that are said, or not
 
@@ -102,7 +75,7 @@ change_heard before edit after was now name account comment = λ i. record {
   comment = said_known (not (gives_comment edit) || bytes_eq was.comment now.comment) was.comment now.comment (comment_said (gives_comment edit) was.comment now.comment comment) i;
 }
 
--- a message that tells nothing
+-- a message that reports nothing
 record IsUntold (message : UserState) : Type 0 where
   channel : is_some message.channel_id ≡ false
   mute : is_some message.mute ≡ false

@@ -1,15 +1,5 @@
 -- Channels in order of number: two such lists with the same members are equal.
-use Rattle.std.proofs.Common.{◌≡◌, ◌<◌, ◌==◌, ◌||◌, ◌&&◌, Bool, true, false, cond, List, [], ◌∷◌, map, fold, refl, ap, sym, ◌∙◌, arith, subst, nat_lt, zero, suc}
-use Rattle.std.specs.List.{filter}
-use Rattle.std.proofs.lemmas.Bool.{both_ways, eq-eqb, eqb-true, ltb-true, lt-ltb}
-use Rattle.mum_base.specs.Channels.{is_among}
-use Rattle.mum_base.specs.declared.number.ChannelId.{ChannelId}
-use Rattle.mum_tree.specs.Rows.{Rise, number}
-use Rattle.mum_tree.specs.declared.channel.Row.{Row}
-use Rattle.mum_users.specs.Order.{IsBelowAll, Rises}
-use Rattle.mum_notify.specs.Channels.{is_lower, with_channel}
-use Rattle.mum_notify.proofs.Families.{same_channel}
-use Rattle.mum_notify.proofs.Placed.{rises_with}
+use Rattle.mum_client_laws.proofs.Common.{◌≡◌, ◌<◌, ◌==◌, ◌||◌, ◌&&◌, Bool, true, false, cond, List, [], ◌∷◌, map, fold, refl, ap, sym, ◌∙◌, arith, subst, nat_lt, zero, suc, filter, both_ways, eq-eqb, eqb-true, ltb-true, lt-ltb, is_among, ChannelId, Rise, number, Row, IsBelowAll, Rises, is_lower, with_channel, same_channel, rises_with}
 
 above_all : (id : ChannelId) (ids : List ChannelId) → IsBelowAll is_lower id ids → (one : ChannelId) → is_among ids one ≡ true → id.0 < one.0
 above_all id [] below one among = cc
@@ -32,7 +22,7 @@ not_below x xs below one among less = step (x.0 == one.0) refl among
     step true same on = let equal : x.0 ≡ one.0 = eqb-true x.0 one.0 same in omega arith
     step false other on = let above : x.0 < one.0 = above_all x xs below one on in omega arith
 
--- those behind the first are the same
+-- those after the first are the same
 same_rest : (x : ChannelId) (xs ys : List ChannelId) → IsBelowAll is_lower x xs → IsBelowAll is_lower x ys
     → ((id : ChannelId) → is_among (x ∷ xs) id ≡ is_among (x ∷ ys) id) → (id : ChannelId) → is_among xs id ≡ is_among ys id
 same_rest x xs ys below above same id = step (x.0 == id.0) refl (same id)

@@ -1,39 +1,6 @@
 -- Whoever knew the sessions before an edit and got its messages on sessions knows them after it.
-use Rattle.std.proofs.Common.{◌≡◌, ◌≤◌, ℕ, ◌+◌, ◌==◌, ◌&&◌, ◌||◌, Bool, true, false, not, cond, List, [], ◌∷◌, ◌++◌, fold, Option, Some, None, refl, ap, sym, ◌∙◌, subst, arith, ⊎_elim}
-use Rattle.std.specs.List.{filter, flat_map, list_any}
-use Rattle.std.specs.Option.{is_some, option_map, option_map_or}
-use Rattle.std.proofs.lemmas.Bool.{and_parts, eq-eqb, eqb-true, false≢true, ne_eqb, not-true}
-use Rattle.std.proofs.lemmas.List.{append-nil}
-use Rattle.std.proofs.lemmas.List.Sums.{fold-append}
-use Rattle.mum_base.specs.declared.number.{ChannelId.ChannelId, SessionId.SessionId}
-use Rattle.mum_msg_state.specs.declared.{user_remove.UserRemove.UserRemove, user_state.UserState.UserState}
-use Rattle.mum_users.specs.Listeners.{listens, pairs_of}
-use Rattle.mum_users.specs.Sessions.{next_number, session_of}
-use Rattle.mum_users.specs.State.{RosterState, has_number}
-use Rattle.mum_users.specs.declared.listening.ListenerPair.{ListenerPair}
-use Rattle.mum_users.specs.declared.user.User.{User}
-use Rattle.mum_state.specs.Applied.{applied}
-use Rattle.mum_state.specs.Fits.{fits}
-use Rattle.mum_state.specs.Named.{given}
-use Rattle.mum_state.specs.Proper.{IsProper}
-use Rattle.mum_state.specs.State.{StateValue}
-use Rattle.mum_state.specs.declared.edit.Edit.{Edit}
-use Rattle.mum_state.specs.declared.edit.Edit.TheVariants.{Join, Kick, Leave}
-use Rattle.mum_state.proofs.Each.{found_passes}
-use Rattle.mum_state.proofs.Fitting.{fit_parts}
-use Rattle.mum_state.proofs.Keeping.{fit_proper}
-use Rattle.mum_state.proofs.Seats.{session_known}
-use Rattle.mum_notify.specs.Gone.{user_kicked, user_left}
-use Rattle.mum_notify.specs.Notices.{closes}
-use Rattle.mum_notify.specs.Users.{gives_comment, user_changes_told, user_difference, user_told, watched, whom_to_watch}
-use Rattle.mum_notify.proofs.Unwatched.{comments_stand_lem, other_sessions_stand_lem}
-use Rattle.mum_client_laws.specs.Heard.{is_listed, listening_after, plain_session, session_heard}
-use Rattle.mum_client_laws.specs.Known.{KnownSession, public_session}
-use Rattle.mum_client_laws.proofs.Folded.{listens_at, session_at, told_of_own}
-use Rattle.mum_client_laws.proofs.Lists.{found_listed, unlisted}
-use Rattle.mum_client_laws.proofs.Membership.{brings_in, gone_is_out, members, names_stay, puts_out, stays_in, there_after}
-use Rattle.mum_client_laws.proofs.Reported.{absent_listens, added_alone, difference_other, difference_other_listens, listened_is, listens_by_pairs, newcomer_heard, own_listens, own_told, told_other, told_other_listens}
-use Rattle.mum_client_laws.proofs.Watching.{found_other, found_own, never_found, never_seen, same_session, seen_or_not}
+use Rattle.mum_client_laws.proofs.Common.{◌≡◌, ◌≤◌, ℕ, ◌+◌, ◌==◌, ◌&&◌, ◌||◌, Bool, true, false, not, cond, List, [], ◌∷◌, ◌++◌, fold, Option, Some, None, refl, ap, sym, ◌∙◌, subst, arith, ⊎_elim, filter, flat_map, list_any, is_some, option_map, option_map_or, and_parts, eq-eqb, eqb-true, false≢true, ne_eqb, not-true, append-nil, fold-append, ChannelId, SessionId, UserRemove, UserState, listens, pairs_of, next_number, session_of, RosterState, has_number, ListenerPair, User, applied, fits, given, IsProper, StateValue, Edit, Join, Kick, Leave, found_passes, fit_parts, fit_proper, session_known, user_kicked, user_left, closes, gives_comment, user_changes_told, user_difference, user_told, watched, whom_to_watch, comments_stand_lem, other_sessions_stand_lem, is_listed, listening_after, plain_session, session_heard, KnownSession, public_session}
+use Rattle.mum_client_laws.proofs.{Folded.listens_at, Folded.session_at, Folded.told_of_own, Lists.found_listed, Lists.unlisted, Membership.brings_in, Membership.gone_is_out, Membership.members, Membership.names_stay, Membership.puts_out, Membership.stays_in, Membership.there_after, Reported.absent_listens, Reported.added_alone, Reported.difference_other, Reported.difference_other_listens, Reported.listened_is, Reported.listens_by_pairs, Reported.newcomer_heard, Reported.own_listens, Reported.own_told, Reported.told_other, Reported.told_other_listens, Watching.found_other, Watching.found_own, Watching.never_found, Watching.never_seen, Watching.same_session, Watching.seen_or_not}
 
 -- ---- the messages on sessions
 

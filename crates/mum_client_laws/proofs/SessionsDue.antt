@@ -1,39 +1,6 @@
 -- The sessions that an edit changes are those of which messages are sent.
-use Rattle.std.proofs.Common.{◌≡◌, ◌≤◌, ℕ, ◌==◌, ◌||◌, Bool, true, false, not, cond, List, [], ◌∷◌, map, Option, Some, None, length, refl, ap, sym, ◌∙◌, arith, subst}
-use Rattle.std.specs.List.{Contains, count_by, filter, flat_map, list_any}
-use Rattle.std.specs.Option.{is_some, option_map, option_map_or}
-use Rattle.std.specs.Str.{bytes_eq}
-use Rattle.std.proofs.lemmas.Bool.{both_ways, eq-eqb, ne_eqb}
-use Rattle.std.proofs.lemmas.List.Elements.{All-contains, All-contains_itself}
-use Rattle.std.proofs.lemmas.Slice.Eq.{bytes_eq-Decides}
-use Rattle.mum_base.specs.declared.number.{SessionId.SessionId}
-use Rattle.mum_msg_state.specs.declared.user_state.UserState.{UserState}
-use Rattle.mum_users.specs.Listeners.{listens, pairs_of}
-use Rattle.mum_users.specs.Sessions.{session_of}
-use Rattle.mum_users.specs.State.{RosterState, has_number}
-use Rattle.mum_users.specs.declared.listening.ListenerPair.{ListenerPair}
-use Rattle.mum_users.specs.declared.user.User.{User}
-use Rattle.mum_state.specs.Applied.{applied}
-use Rattle.mum_state.specs.Fits.{fits}
-use Rattle.mum_state.specs.Kinds.{is_empty}
-use Rattle.mum_state.specs.Proper.{IsProper}
-use Rattle.mum_state.specs.State.{StateValue}
-use Rattle.mum_state.specs.declared.edit.Edit.{Edit}
-use Rattle.mum_state.proofs.Each.{Each, each_filter, each_from_all, each_self, each_so, none_passes}
-use Rattle.mum_state.proofs.Keeping.{fit_proper}
-use Rattle.mum_notify.specs.Channels.{if_it_tells, said_unless}
-use Rattle.mum_notify.specs.Notices.{closes}
-use Rattle.mum_notify.specs.Parcels.{all_to_each, user_frame}
-use Rattle.mum_notify.specs.Users.{edited_by, flag_told, gives_comment, tells_of_user, user_change_told, user_changes_told, user_difference, watched, whom_to_watch}
-use Rattle.mum_notify.proofs.Unwatched.{comments_stand_lem, other_sessions_stand_lem}
-use Rattle.mum_client_laws.specs.Heard.{OfSession}
-use Rattle.mum_client_laws.specs.Recipients.{AboutSession, AreExactly, Subject, changed_sessions, differ, due_to_all, gives_private, is_changed_session, is_other_session, listens_otherwise}
-use Rattle.mum_client_laws.proofs.Exactly.{exactly_to_all, kept_within, pieces_kept}
-use Rattle.mum_client_laws.proofs.Framed.{session_framed}
-use Rattle.mum_client_laws.proofs.Lists.{only_given}
-use Rattle.mum_client_laws.proofs.Meant.{all_passing}
-use Rattle.mum_client_laws.proofs.Reported.{listens_by_pairs}
-use Rattle.mum_client_laws.proofs.Watching.{looked_at}
+use Rattle.mum_client_laws.proofs.Common.{◌≡◌, ◌≤◌, ℕ, ◌==◌, ◌||◌, Bool, true, false, not, cond, List, [], ◌∷◌, map, Option, Some, None, length, refl, ap, sym, ◌∙◌, arith, subst, Contains, count_by, filter, flat_map, list_any, is_some, option_map, option_map_or, bytes_eq, both_ways, eq-eqb, ne_eqb, All-contains, All-contains_itself, bytes_eq-Decides, SessionId, UserState, listens, pairs_of, session_of, RosterState, has_number, ListenerPair, User, applied, fits, is_empty, IsProper, StateValue, Edit, Each, each_filter, each_from_all, each_self, each_so, none_passes, fit_proper, if_it_tells, said_unless, closes, all_to_each, user_frame, edited_by, flag_told, gives_comment, tells_of_user, user_change_told, user_changes_told, user_difference, watched, whom_to_watch, comments_stand_lem, other_sessions_stand_lem, OfSession, AboutSession, AreExactly, Subject, changed_sessions, differ, due_to_all, gives_private, is_changed_session, is_other_session, listens_otherwise}
+use Rattle.mum_client_laws.proofs.{Exactly.exactly_to_all, Exactly.kept_within, Exactly.pieces_kept, Framed.session_framed, Lists.only_given, Meant.all_passing, Reported.listens_by_pairs, Watching.looked_at}
 
 -- ---- what a message gives
 
@@ -70,7 +37,7 @@ pub or_grouped : (a b c : Bool) → ((a || b) || c) ≡ (a || (b || c))
 or_grouped true b c = refl
 or_grouped false b c = refl
 
--- the message tells something exactly where the session is another, or listens otherwise
+-- the message reports something exactly where the session has changed, or listens otherwise
 tells : (before : RosterState) (edit : Edit) (after : RosterState) (was now : User) → (gives_comment edit ≡ false → now.comment ≡ was.comment)
     → tells_of_user (user_change_told before edit after was now) ≡ (is_other_session was now || listens_otherwise before after now.session)
 tells before edit after was now stays =

@@ -1,43 +1,6 @@
 -- Whoever stays knows by the notices of an edit what is after it.
-use Rattle.std.proofs.Common.{◌≡◌, ℕ, ◌==◌, true, false, not, List, [], ◌∷◌, ◌++◌, map, fold, Option, Some, None, refl, ap, sym, ◌∙◌, arith, append_assoc, ◌+◌}
-use Rattle.std.specs.List.{filter, flat_map}
-use Rattle.std.proofs.Math.Path.{fun_ext}
-use Rattle.std.proofs.lemmas.Bool.{and_parts, eqb-true, ne_eqb}
-use Rattle.std.proofs.lemmas.List.{append-nil, map-append}
-use Rattle.std.proofs.lemmas.List.Sums.{fold-append}
-use Rattle.mum_base.specs.declared.number.{ChannelId.ChannelId, SessionId.SessionId}
-use Rattle.mum_msg_state.specs.declared.{channel_state.ChannelState.ChannelState, user_remove.UserRemove.UserRemove, user_state.UserState.UserState}
-use Rattle.mum_users.specs.Sessions.{next_number, session_of}
-use Rattle.mum_users.specs.State.{has_number}
-use Rattle.mum_users.specs.declared.user.User.{User}
-use Rattle.mum_state.specs.Applied.{applied}
-use Rattle.mum_state.specs.Fits.{fits}
-use Rattle.mum_state.specs.Named.{given}
-use Rattle.mum_state.specs.Proper.{IsProper}
-use Rattle.mum_state.specs.State.{StateValue}
-use Rattle.mum_state.specs.declared.edit.Edit.{Edit}
-use Rattle.mum_state.specs.declared.edit.Edit.TheVariants.{Join, Kick, Leave, SetAcl, Text}
-use Rattle.mum_state.proofs.Each.{found_passes}
-use Rattle.mum_state.proofs.Fitting.{fit_parts}
-use Rattle.mum_state.proofs.Keeping.{fit_proper}
-use Rattle.mum_state.proofs.Seats.{session_known}
-use Rattle.mum_notify.specs.Channels.{channel_changes_told, new_channels_told}
-use Rattle.mum_notify.specs.Gone.{channel_gone, channels_gone, departure, last_parcel, user_kicked, user_left}
-use Rattle.mum_notify.specs.Notices.{arrival, closes, notices, others}
-use Rattle.mum_notify.specs.Parcels.{all_to_each, channel_frame, channel_gone_frame, parcel, permissions_frame, text_frame, to_each, user_frame, user_gone_frame}
-use Rattle.mum_notify.specs.Sync.{sync_block, sync_frames, sync_parcels}
-use Rattle.mum_notify.specs.Texts.{is_for, permission_parcel, permission_parcels, permissions_told, text_parcels, text_told}
-use Rattle.mum_notify.specs.Users.{user_changes_told, user_told}
-use Rattle.mum_notify.specs.declared.notice.Notice.{Notice}
-use Rattle.mum_notify.proofs.Standing.{apart_sym, filter_within}
-use Rattle.mum_client_laws.specs.Brought.{Brings, frame_of, frames_to}
-use Rattle.mum_client_laws.specs.Heard.{Message, OfChannel, OfChannelGone, OfPermissions, OfSession, OfSessionGone, OfText, all_heard, heard, listening_left, sessions_left}
-use Rattle.mum_client_laws.specs.Known.{Channels, Known, Pairs, Sessions, numbered_channel, numbered_session, public}
-use Rattle.mum_client_laws.proofs.Closing.{IsKnownTree, channels_of, gone_channels, gone_links, heard_gone, links_of}
-use Rattle.mum_client_laws.proofs.Folded.{heard_channels, heard_permissions, heard_sessions, heard_texts, told_channels, told_links, told_listening, told_listens, told_session, told_sessions}
-use Rattle.mum_client_laws.proofs.Framed.{all_framed, both_framed, channel_framed, channel_gone_framed, frames_append, frames_of_all, frames_posted, permissions_framed, session_framed, session_gone_framed, text_framed}
-use Rattle.mum_client_laws.proofs.Lists.{only_given}
-use Rattle.mum_client_laws.proofs.SessionsAfter.{arriving, departures, left_at, listens_told, session_messages, session_told, unlistens_at}
+use Rattle.mum_client_laws.proofs.Common.{◌≡◌, ℕ, ◌==◌, true, false, not, List, [], ◌∷◌, ◌++◌, map, fold, Option, Some, None, refl, ap, sym, ◌∙◌, arith, append_assoc, ◌+◌, filter, flat_map, fun_ext, and_parts, eqb-true, ne_eqb, append-nil, map-append, fold-append, ChannelId, SessionId, ChannelState, UserRemove, UserState, next_number, session_of, has_number, User, applied, fits, given, IsProper, StateValue, Edit, Join, Kick, Leave, SetAcl, Text, found_passes, fit_parts, fit_proper, session_known, channel_changes_told, new_channels_told, channel_gone, channels_gone, departure, last_parcel, user_kicked, user_left, arrival, closes, notices, others, all_to_each, channel_frame, channel_gone_frame, parcel, permissions_frame, text_frame, to_each, user_frame, user_gone_frame, sync_block, sync_frames, sync_parcels, is_for, permission_parcel, permission_parcels, permissions_told, text_parcels, text_told, user_changes_told, user_told, Notice, apart_sym, filter_within, Brings, frame_of, frames_to, Message, OfChannel, OfChannelGone, OfPermissions, OfSession, OfSessionGone, OfText, all_heard, heard, listening_left, sessions_left, Channels, Known, Pairs, Sessions, numbered_channel, numbered_session, public}
+use Rattle.mum_client_laws.proofs.{Closing.IsKnownTree, Closing.channels_of, Closing.gone_channels, Closing.gone_links, Closing.heard_gone, Closing.links_of, Folded.heard_channels, Folded.heard_permissions, Folded.heard_sessions, Folded.heard_texts, Folded.told_channels, Folded.told_links, Folded.told_listening, Folded.told_listens, Folded.told_session, Folded.told_sessions, Framed.all_framed, Framed.both_framed, Framed.channel_framed, Framed.channel_gone_framed, Framed.frames_append, Framed.frames_of_all, Framed.frames_posted, Framed.permissions_framed, Framed.session_framed, Framed.session_gone_framed, Framed.text_framed, Lists.only_given, SessionsAfter.arriving, SessionsAfter.departures, SessionsAfter.left_at, SessionsAfter.listens_told, SessionsAfter.session_messages, SessionsAfter.session_told, SessionsAfter.unlistens_at}
 
 -- ---- departures, as they are heard
 

@@ -1,44 +1,6 @@
 -- Whoever is sent the channels of a tree, each after its parent, and then their links, knows the tree.
-use Rattle.std.proofs.Common.{◌≡◌, ◌⊎◌, ℕ, zero, suc, ◌==◌, ◌&&◌, ◌||◌, Bool, true, false, true≢false, not, cond, List, [], ◌∷◌, ◌++◌, map, Option, Some, None, refl, ap, sym, ◌∙◌, subst, inl, inr, ⊎_elim, append_assoc, pos}
-use Rattle.std.specs.List.{filter, flat_map, list_any}
-use Rattle.std.specs.Option.{is_some, option_map, option_map_or}
-use Rattle.std.specs.Ordering.{int_eq}
-use Rattle.std.proofs.Math.Path.{fun_ext}
-use Rattle.std.proofs.lemmas.Bool.{and_parts, both_ways, eq-eqb, eqb-true, not-false}
-use Rattle.std.proofs.lemmas.Grind.{flat_map-append}
-use Rattle.std.proofs.lemmas.List.{append-nil}
-use Rattle.std.proofs.lemmas.List.Sums.{fold-append}
-use Rattle.mum_base.specs.declared.number.ChannelId.{ChannelId}
-use Rattle.mum_base.specs.declared.number.TheConstants.ChannelId.{ROOT}
-use Rattle.mum_msg_state.specs.declared.channel_state.ChannelState.{ChannelState}
-use Rattle.mum_tree.specs.Proper.{IsProper as IsProperTree}
-use Rattle.mum_tree.specs.Refusals.{parent_of}
-use Rattle.mum_tree.specs.Rows.{is_root, is_there, number, row_of}
-use Rattle.mum_tree.specs.State.{TreeState, are_linked, partners}
-use Rattle.mum_tree.specs.declared.channel.Channel.{Channel}
-use Rattle.mum_tree.specs.declared.channel.Row.{Row}
-use Rattle.mum_tree.specs.declared.channel.TheConstants.{PATH_LIMIT}
-use Rattle.mum_tree.proofs.Changed.{number_found}
-use Rattle.mum_state.specs.Kinds.{is_empty}
-use Rattle.mum_state.specs.Named.{given}
-use Rattle.mum_state.specs.Proper.{IsProper}
-use Rattle.mum_state.specs.State.{StateValue}
-use Rattle.mum_state.proofs.Each.{Each, each_append, each_so, some_found}
-use Rattle.mum_state.proofs.Gone.{parent_there}
-use Rattle.mum_state.proofs.Members.{any_mapped}
-use Rattle.mum_notify.specs.Channels.{channel_ids, channel_of, channel_told, children, family, has_links, if_it_tells, is_child, links_told, numbers}
-use Rattle.mum_notify.specs.Sync.{all_links_told, tree_order, tree_told}
-use Rattle.mum_notify.proofs.Families.{parents_come_first_lem, same_channel}
-use Rattle.mum_notify.proofs.Standing.{apart_sym}
-use Rattle.mum_client_laws.specs.Heard.{channel_after, channel_heard, channels_heard, has_any, has_place, is_listed, link_heard, links_heard, other_end, plain_channel}
-use Rattle.mum_client_laws.specs.Known.{Channels, KnownChannel, Pairs, numbered_channel, public_channel}
-use Rattle.mum_client_laws.proofs.ChannelsAfter.{any_first, made_at}
-use Rattle.mum_client_laws.proofs.ChannelsTold.{channel_apart, channel_known, channel_own}
-use Rattle.mum_client_laws.proofs.Closing.{IsKnownTree, channels_of, known_there}
-use Rattle.mum_client_laws.proofs.Folded.{told_channels, told_links}
-use Rattle.mum_client_laws.proofs.Linked.{linked_both, partners_are}
-use Rattle.mum_client_laws.proofs.LinksTold.{absent_unlinked, no_links_told}
-use Rattle.mum_client_laws.proofs.Reported.{empty_is, said_known}
+use Rattle.mum_client_laws.proofs.Common.{◌≡◌, ◌⊎◌, ℕ, zero, suc, ◌==◌, ◌&&◌, ◌||◌, Bool, true, false, true≢false, not, cond, List, [], ◌∷◌, ◌++◌, map, Option, Some, None, refl, ap, sym, ◌∙◌, subst, inl, inr, ⊎_elim, append_assoc, pos, filter, flat_map, list_any, is_some, option_map, option_map_or, int_eq, fun_ext, and_parts, both_ways, eq-eqb, eqb-true, not-false, flat_map-append, append-nil, fold-append, ChannelId, ROOT, ChannelState, IsProperTree, parent_of, is_root, is_there, number, row_of, TreeState, are_linked, partners, Channel, Row, PATH_LIMIT, number_found, is_empty, given, IsProper, StateValue, Each, each_append, each_so, some_found, parent_there, any_mapped, channel_ids, channel_of, channel_told, children, family, has_links, if_it_tells, is_child, links_told, numbers, all_links_told, tree_order, tree_told, parents_come_first_lem, same_channel, apart_sym, channel_after, channel_heard, channels_heard, has_any, has_place, is_listed, link_heard, links_heard, other_end, plain_channel, Channels, KnownChannel, Pairs, numbered_channel, public_channel}
+use Rattle.mum_client_laws.proofs.{ChannelsAfter.any_first, ChannelsAfter.made_at, ChannelsTold.channel_apart, ChannelsTold.channel_known, ChannelsTold.channel_own, Closing.IsKnownTree, Closing.channels_of, Closing.known_there, Folded.told_channels, Folded.told_links, Linked.linked_both, Linked.partners_are, LinksTold.absent_unlinked, LinksTold.no_links_told, Reported.empty_is, Reported.said_known}
 
 -- ---- a channel of which all is said again
 

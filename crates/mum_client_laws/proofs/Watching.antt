@@ -1,16 +1,5 @@
 -- Of whom messages on sessions are sent: for one session, of it or of none.
-use Rattle.std.proofs.Common.{◌≡◌, ◌≤◌, ◌⊎◌, ◌==◌, Bool, true, false, cond, List, [], ◌∷◌, Option, Some, None, refl, ap, ◌∙◌, inl, inr}
-use Rattle.std.specs.List.{count_by, filter}
-use Rattle.std.proofs.lemmas.Bool.{eqb-true}
-use Rattle.mum_base.specs.declared.number.SessionId.{SessionId}
-use Rattle.mum_users.specs.Sessions.{session_of}
-use Rattle.mum_users.specs.State.{RosterState, has_number}
-use Rattle.mum_users.specs.declared.user.User.{User}
-use Rattle.mum_state.specs.Named.{given}
-use Rattle.mum_state.specs.declared.edit.Edit.{Edit}
-use Rattle.mum_state.specs.declared.edit.Edit.TheVariants.{MakeChannel, RemoveChannel, SetAcl, SetTokens, SetUser}
-use Rattle.mum_state.proofs.Each.{each_find, found_passes, none_found}
-use Rattle.mum_notify.specs.Users.{watched, whom_to_watch}
+use Rattle.mum_client_laws.proofs.Common.{◌≡◌, ◌≤◌, ◌⊎◌, ◌==◌, Bool, true, false, cond, List, [], ◌∷◌, Option, Some, None, refl, ap, ◌∙◌, inl, inr, count_by, filter, eqb-true, SessionId, session_of, RosterState, has_number, User, given, Edit, MakeChannel, RemoveChannel, SetAcl, SetTokens, SetUser, each_find, found_passes, none_found, watched, whom_to_watch}
 use Rattle.mum_client_laws.proofs.Lists.{none_given, only_given}
 
 pub same_session : (one other : SessionId) → (one.0 == other.0) ≡ true → one ≡ other

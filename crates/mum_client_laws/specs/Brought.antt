@@ -1,11 +1,11 @@
 -- What notices bring to a session: frames, and the messages that they are.
 use Rattle.std.specs.Prelude.{◌≡◌, ℕ, ◌==◌, List, filter, map}
 use Rattle.mum_base.specs.declared.number.SessionId.{SessionId}
-use Rattle.mum_fields.specs.Table.{spelled}
 use Rattle.mum_frame.specs.Frame.{spelling_of}
 use Rattle.mum_frame.specs.declared.kind.TheConstants.{CHANNEL_REMOVE, CHANNEL_STATE, CODEC_VERSION, PERMISSION_QUERY, SERVER_SYNC, TEXT_MESSAGE, USER_REMOVE, USER_STATE, VERSION}
-use Rattle.mum_msg_rule.specs.Messages.{permission_query, text_message}
+use Rattle.mum_fields.specs.Table.{spelled}
 use Rattle.mum_msg_state.specs.Messages.{channel_remove, channel_state, codec_version, server_sync, user_remove, user_state, version}
+use Rattle.mum_msg_rule.specs.Messages.{permission_query, text_message}
 use Rattle.mum_notify.specs.declared.notice.Notice.{Notice}
 use Rattle.mum_client_laws.specs.Heard.{Message, OfChannel, OfChannelGone, OfCodecs, OfPermissions, OfSession, OfSessionGone, OfSync, OfText, OfVersion, all_heard}
 use Rattle.mum_client_laws.specs.Known.{Known}

@@ -1,19 +1,16 @@
 -- What a client makes of the messages that it is sent, as the Mumble protocol documentation has it: what a message
 -- gives is set, what it does not give stays.
 use Rattle.std.specs.Prelude.{ℕ, zero, suc, pos, ◌==◌, ◌&&◌, ◌||◌, not, Bool, true, false, List, [], ◌∷◌, fold, Option, Some, None, is_some, unwrap_or, if◌then◌else◌}
-use Rattle.std.specs.List.{list_any}
-use Rattle.std.specs.Option.{option_map_or}
+use Rattle.std.specs.{List.list_any, Option.option_map_or}
 use Rattle.mum_base.specs.declared.number.TheConstants.ChannelId.{ROOT}
-use Rattle.mum_msg_rule.specs.declared.permission_query.PermissionQuery.{PermissionQuery}
-use Rattle.mum_msg_rule.specs.declared.text_message.TextMessage.{TextMessage}
+use Rattle.mum_tree.specs.declared.channel.TheConstants.{PATH_LIMIT}
 use Rattle.mum_msg_state.specs.declared.channel_remove.ChannelRemove.{ChannelRemove}
 use Rattle.mum_msg_state.specs.declared.channel_state.ChannelState.{ChannelState}
-use Rattle.mum_msg_state.specs.declared.codec_version.CodecVersion.{CodecVersion}
-use Rattle.mum_msg_state.specs.declared.server_sync.ServerSync.{ServerSync}
-use Rattle.mum_msg_state.specs.declared.user_remove.UserRemove.{UserRemove}
-use Rattle.mum_msg_state.specs.declared.user_state.UserState.{UserState}
+use Rattle.mum_msg_state.specs.declared.{codec_version.CodecVersion.CodecVersion, server_sync.ServerSync.ServerSync}
+use Rattle.mum_msg_state.specs.declared.{user_remove.UserRemove.UserRemove, user_state.UserState.UserState}
 use Rattle.mum_msg_state.specs.declared.version.Version.{Version}
-use Rattle.mum_tree.specs.declared.channel.TheConstants.{PATH_LIMIT}
+use Rattle.mum_msg_rule.specs.declared.permission_query.PermissionQuery.{PermissionQuery}
+use Rattle.mum_msg_rule.specs.declared.text_message.TextMessage.{TextMessage}
 use Rattle.mum_client_laws.specs.Known.{Channels, Known, KnownChannel, KnownSession, Pairs, Sessions}
 
 pub data Message : Type 0 where

@@ -2,13 +2,10 @@
 -- looks a number up in it.
 use Rattle.std.specs.Prelude.{ℕ, ℤ, Bool, false, List, Option, None}
 use Rattle.std.specs.Option.{option_map}
-use Rattle.mum_base.specs.declared.number.ChannelId.{ChannelId}
-use Rattle.mum_base.specs.declared.number.SessionId.{SessionId}
-use Rattle.mum_tree.specs.Rows.{row_of}
-use Rattle.mum_tree.specs.State.{are_linked}
+use Rattle.mum_base.specs.declared.number.{ChannelId.ChannelId, SessionId.SessionId}
+use Rattle.mum_tree.specs.{Rows.row_of, State.are_linked}
 use Rattle.mum_tree.specs.declared.channel.Channel.{Channel}
-use Rattle.mum_users.specs.Listeners.{listens}
-use Rattle.mum_users.specs.Sessions.{session_of}
+use Rattle.mum_users.specs.{Listeners.listens, Sessions.session_of}
 use Rattle.mum_users.specs.declared.user.User.{User}
 use Rattle.mum_state.specs.State.{StateValue}
 

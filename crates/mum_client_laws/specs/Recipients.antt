@@ -1,30 +1,19 @@
 -- Who is sent what of an edit, in which order: a list for each kind of edit, made of the states before and after it.
 use Rattle.std.specs.Prelude.{◌≡◌, ℕ, zero, suc, ◌==◌, ◌&&◌, ◌||◌, not, Bool, true, false, List, [], ◌∷◌, ◌++◌, length, map, filter, Option, Some, None, is_some, if◌then◌else◌, IsTrue, ⊤}
-use Rattle.std.specs.List.{flat_map, list_any}
-use Rattle.std.specs.Option.{option_map, option_map_or}
-use Rattle.std.specs.Ordering.{int_eq}
+use Rattle.std.specs.{List.flat_map, List.list_any, Option.option_map, Option.option_map_or, Ordering.int_eq}
 use Rattle.std.specs.Str.{bytes_eq}
-use Rattle.mum_base.specs.declared.number.ChannelId.{ChannelId}
-use Rattle.mum_base.specs.declared.number.SessionId.{SessionId}
-use Rattle.mum_base.specs.declared.number.Slot.{Slot}
-use Rattle.mum_base.specs.declared.number.TheConstants.ChannelId.{ROOT}
-use Rattle.mum_base.specs.declared.perm.TheConstants.Perm.{TEXT_MESSAGE}
-use Rattle.mum_msg_state.specs.declared.user_state.UserState.{UserState}
+use Rattle.mum_base.specs.declared.number.{ChannelId.ChannelId, SessionId.SessionId, Slot.Slot}
+use Rattle.mum_base.specs.declared.{number.TheConstants.ChannelId.ROOT, perm.TheConstants.Perm.TEXT_MESSAGE}
 use Rattle.mum_policy.specs.Walk.{holds}
 use Rattle.mum_tree.specs.Refusals.{parent_of}
 use Rattle.mum_tree.specs.Rows.{is_below, is_root, is_temporary, is_there, row_of}
 use Rattle.mum_tree.specs.State.{TreeState, are_linked, partners, starts_at}
-use Rattle.mum_tree.specs.declared.channel.Channel.{Channel}
-use Rattle.mum_tree.specs.declared.channel.TheConstants.{PATH_LIMIT}
-use Rattle.mum_users.specs.Listeners.{listens, pairs_of}
-use Rattle.mum_users.specs.Sessions.{session_of}
+use Rattle.mum_tree.specs.declared.channel.{Channel.Channel, TheConstants.PATH_LIMIT}
+use Rattle.mum_users.specs.{Listeners.listens, Listeners.pairs_of, Sessions.session_of}
 use Rattle.mum_users.specs.State.{RosterState, has_number}
 use Rattle.mum_users.specs.declared.user.User.{User}
-use Rattle.mum_state.specs.Applied.{applied}
-use Rattle.mum_state.specs.Fits.{fits}
-use Rattle.mum_state.specs.Parts.{by_parts}
-use Rattle.mum_state.specs.Permissions.{perm_of}
-use Rattle.mum_state.specs.Proper.{IsProper}
+use Rattle.mum_msg_state.specs.declared.user_state.UserState.{UserState}
+use Rattle.mum_state.specs.{Applied.applied, Fits.fits, Parts.by_parts, Permissions.perm_of, Proper.IsProper}
 use Rattle.mum_state.specs.State.{StateValue}
 use Rattle.mum_state.specs.declared.edit.Edit.{Edit}
 use Rattle.mum_state.specs.declared.edit.Edit.TheVariants.{Join, Kick, Leave, MakeChannel, RemoveChannel, SetAcl, SetTokens, Text}
@@ -201,7 +190,7 @@ due_of_policy state user =
 abbrev pub is_right_below : TreeState → ChannelId → ChannelId → Bool
 is_right_below tree parent id = not (is_root id) && ((parent_of tree id).0 == parent.0)
 
--- a channel, and after it each channel right below it, in order of number, with all that is below that, so many levels
+-- a channel, and after it each channel right below it, in order of number, with all that is below that, n levels
 -- deep
 unfoldable pub with_all_below : StateValue → ℕ → ChannelId → List ChannelId
 with_all_below state zero id = []

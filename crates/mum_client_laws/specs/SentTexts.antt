@@ -1,22 +1,18 @@
 -- Who receives a text, and nobody else.
 use Rattle.std.specs.Prelude.{◌≡◌, ◌≢◌, ◌⊎◌, ℕ, false, List, map, Some, IsTrue}
 use Rattle.std.specs.List.{All, Contains}
-use Rattle.mum_base.specs.declared.number.ChannelId.{ChannelId}
-use Rattle.mum_base.specs.declared.number.SessionId.{SessionId}
+use Rattle.mum_base.specs.declared.number.{ChannelId.ChannelId, SessionId.SessionId}
 use Rattle.mum_base.specs.declared.perm.TheConstants.Perm.{TEXT_MESSAGE}
-use Rattle.mum_msg_rule.specs.declared.text_message.TextMessage.{TextMessage}
 use Rattle.mum_policy.specs.Walk.{holds}
 use Rattle.mum_tree.specs.Rows.{is_below}
 use Rattle.mum_users.specs.Proper.{SlotsRise}
 use Rattle.mum_users.specs.declared.user.User.{User}
-use Rattle.mum_state.specs.Permissions.{perm_of}
-use Rattle.mum_state.specs.Proper.{IsProper}
-use Rattle.mum_state.specs.State.{StateValue}
+use Rattle.mum_msg_rule.specs.declared.text_message.TextMessage.{TextMessage}
+use Rattle.mum_state.specs.{Permissions.perm_of, Proper.IsProper, State.StateValue}
 use Rattle.mum_state.specs.declared.edit.Edit.TheVariants.{Text}
 use Rattle.mum_notify.specs.Notices.{notices}
 use Rattle.mum_notify.specs.declared.notice.Notice.{Notice}
-use Rattle.mum_client_laws.specs.Brought.{frame_of}
-use Rattle.mum_client_laws.specs.Heard.{OfText}
+use Rattle.mum_client_laws.specs.{Brought.frame_of, Heard.OfText}
 
 -- the actor may send texts to the channel
 abbrev pub MayText : StateValue → SessionId → ChannelId → Type 0

@@ -1,20 +1,12 @@
 -- What sessions know by what they are sent.
 use Rattle.std.specs.Prelude.{ℕ, Bool, List, [], ◌∷◌, ◌++◌, Option, is_some, IsTrue}
-use Rattle.mum_base.specs.declared.number.AccountId.{AccountId}
-use Rattle.mum_base.specs.declared.number.SessionId.{SessionId}
-use Rattle.mum_base.specs.declared.number.Slot.{Slot}
+use Rattle.mum_base.specs.declared.number.{AccountId.AccountId, SessionId.SessionId, Slot.Slot}
 use Rattle.mum_users.specs.Sessions.{session_of}
-use Rattle.mum_state.specs.Applied.{applied}
-use Rattle.mum_state.specs.Fits.{fits}
-use Rattle.mum_state.specs.Proper.{IsProper}
-use Rattle.mum_state.specs.State.{StateValue}
-use Rattle.mum_state.specs.declared.edit.Edit.{Edit}
-use Rattle.mum_state.specs.declared.edit.Edit.TheVariants.{Join}
-use Rattle.mum_notify.specs.Notices.{notices}
-use Rattle.mum_notify.specs.Sync.{sync_block}
+use Rattle.mum_state.specs.{Applied.applied, Fits.fits, Proper.IsProper, State.StateValue}
+use Rattle.mum_state.specs.declared.edit.Edit.{Edit, TheVariants.Join}
+use Rattle.mum_notify.specs.{Notices.notices, Sync.sync_block}
 use Rattle.mum_notify.specs.declared.notice.Notice.{Notice}
-use Rattle.mum_client_laws.specs.Brought.{Brings}
-use Rattle.mum_client_laws.specs.Known.{nothing, public}
+use Rattle.mum_client_laws.specs.{Brought.Brings, Known.nothing, Known.public}
 
 abbrev pub is_here : StateValue → SessionId → Bool
 is_here state session = is_some (session_of state.roster session)

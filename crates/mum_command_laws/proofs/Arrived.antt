@@ -1,33 +1,7 @@
--- What is told of a session that arrives and of a channel that is made says all of it.
-use Rattle.std.proofs.Common.{◌≡◌, ℕ, ◌==◌, Bool, true, false, not, List, [], map, Option, Some, None, pos, refl, sym, subst}
-use Rattle.std.specs.Cmp.{signed_Decides}
-use Rattle.std.specs.List.{All, Contains, flat_map}
-use Rattle.std.specs.Option.{unwrap_or}
-use Rattle.std.specs.Ordering.{int_eq}
-use Rattle.std.proofs.lemmas.Bool.{cond-false, eqb-true, not_from_false}
-use Rattle.std.proofs.lemmas.List.Elements.{All-contains, All-cons, All-nil, Contains-append_right}
-use Rattle.mum_msg_state.specs.declared.channel_state.ChannelState.{ChannelState}
-use Rattle.mum_msg_state.specs.declared.user_state.UserState.{UserState}
-use Rattle.mum_tree.specs.Rows.{is_root}
-use Rattle.mum_tree.specs.declared.channel.Channel.{Channel}
-use Rattle.mum_users.specs.Listeners.{pairs_of}
-use Rattle.mum_users.specs.Sessions.{session_of}
-use Rattle.mum_users.specs.State.{RosterState, has_number}
-use Rattle.mum_users.specs.declared.listening.ListenerPair.{ListenerPair}
-use Rattle.mum_users.specs.declared.user.User.{User}
-use Rattle.mum_state.specs.Kinds.{is_empty}
-use Rattle.mum_state.specs.Named.{given}
-use Rattle.mum_state.specs.declared.edit.Edit.TheVariants.{Join, MakeChannel}
-use Rattle.mum_notify.specs.Channels.{channel_told, new_channels_told, said_unless}
-use Rattle.mum_notify.specs.Notices.{notices, others}
-use Rattle.mum_notify.specs.Parcels.{all_to_each, channel_frame, parcel, to_each, user_frame}
-use Rattle.mum_notify.specs.Sync.{sync_block}
-use Rattle.mum_notify.specs.Users.{said_if_set, user_told}
-use Rattle.mum_command_laws.specs.Arrivals.{ArrivalsAreReported, NewChannelsAreReported, SaysAllOfChannel, SaysAllOfUser}
-use Rattle.mum_command_laws.specs.Reports.{ReachesAll}
-use Rattle.mum_command_laws.proofs.Brought.{in_arrival, in_new_channels}
-use Rattle.mum_command_laws.proofs.Contained.{each_reaches, first_in, in_flat_map, in_map, passing_in, reaches_in, to_each_reaches}
-use Rattle.mum_command_laws.proofs.Knowing.{empty_is, said_known}
+-- What is reported of a session that arrives and of a channel that is made says all of it.
+use Rattle.mum_command_laws.proofs.Common.{◌≡◌, ℕ, ◌==◌, Bool, true, false, not, List, [], map, Option, Some, None, pos, refl, sym, subst, signed_Decides, All, Contains, flat_map, unwrap_or, int_eq, cond-false, eqb-true, not_from_false, All-contains, All-cons, All-nil, Contains-append_right, ChannelState, UserState, is_root, Channel, pairs_of, session_of, RosterState, has_number, ListenerPair, User, is_empty, given, MakeChannel, channel_told, new_channels_told, said_unless, notices, others, all_to_each, channel_frame, parcel, to_each, user_frame, sync_block, said_if_set, user_told, ArrivalsAreReported, NewChannelsAreReported, SaysAllOfChannel, SaysAllOfUser, ReachesAll}
+use Rattle.mum_state.specs.declared.edit.Edit.TheVariants.{Join}
+use Rattle.mum_command_laws.proofs.{Brought.in_arrival, Brought.in_new_channels, Contained.each_reaches, Contained.first_in, Contained.in_flat_map, Contained.in_map, Contained.passing_in, Contained.reaches_in, Contained.to_each_reaches, Knowing.empty_is, Knowing.said_known}
 
 set_known : (flag : Bool) → unwrap_or (said_if_set flag) false ≡ flag
 set_known true = refl

@@ -1,29 +1,7 @@
 -- What of a departure and of a text is brought to whom.
-use Rattle.std.proofs.Common.{◌≡◌, ℕ, ◌==◌, ◌||◌, Bool, true, false, not, List, [], map, refl, sym, inl, inr}
-use Rattle.std.specs.List.{Contains, filter, list_any}
-use Rattle.std.specs.Option.{unwrap_or}
-use Rattle.std.proofs.lemmas.Bool.{and_from, eq-eqb, not_from_false, or_left, or_right}
-use Rattle.std.proofs.lemmas.List.Elements.{All-contains, All-weaker}
-use Rattle.mum_base.specs.Channels.{is_among}
-use Rattle.mum_base.specs.declared.number.ChannelId.{ChannelId}
-use Rattle.mum_base.specs.declared.number.SessionId.{SessionId}
-use Rattle.mum_tree.specs.Rows.{is_below}
-use Rattle.mum_users.specs.declared.user.User.{User}
-use Rattle.mum_state.specs.Kinds.{is_empty}
-use Rattle.mum_state.specs.State.{StateValue}
-use Rattle.mum_state.specs.declared.edit.Edit.{Edit}
+use Rattle.mum_command_laws.proofs.Common.{◌≡◌, ℕ, ◌==◌, ◌||◌, Bool, true, false, not, List, [], map, refl, sym, inl, inr, Contains, filter, list_any, unwrap_or, and_from, eq-eqb, not_from_false, or_left, or_right, All-contains, All-weaker, is_among, ChannelId, SessionId, is_below, User, is_empty, StateValue, Edit, channel_changes_told, new_channels_told, said_unless, channel_gone, channels_gone, departure, last_parcel, user_kicked, user_left, arrival, closes, notices, all_to_each, channel_frame, channel_gone_frame, parcel, text_frame, to_each, user_frame, user_gone_frame, is_for, is_in_trees, is_named, may_text, permission_parcels, text_parcels, text_told, said_if_set, user_changes_told, Notice, KicksAreReported, LeavesAreReported, IsMeant, TextsAreSent}
 use Rattle.mum_state.specs.declared.edit.Edit.TheVariants.{Kick, Leave, Text}
-use Rattle.mum_notify.specs.Channels.{channel_changes_told, new_channels_told, said_unless}
-use Rattle.mum_notify.specs.Gone.{channel_gone, channels_gone, departure, last_parcel, user_kicked, user_left}
-use Rattle.mum_notify.specs.Notices.{arrival, closes, notices}
-use Rattle.mum_notify.specs.Parcels.{all_to_each, channel_frame, channel_gone_frame, parcel, text_frame, to_each, user_frame, user_gone_frame}
-use Rattle.mum_notify.specs.Texts.{is_for, is_in_trees, is_named, may_text, permission_parcels, text_parcels, text_told}
-use Rattle.mum_notify.specs.Users.{said_if_set, user_changes_told}
-use Rattle.mum_notify.specs.declared.notice.Notice.{Notice}
-use Rattle.mum_command_laws.specs.Reports.{KicksAreReported, LeavesAreReported}
-use Rattle.mum_command_laws.specs.SentTexts.{IsMeant, TextsAreSent}
-use Rattle.mum_command_laws.proofs.Knowing.{empty_is}
-use Rattle.mum_command_laws.proofs.Contained.{any_of, in_first, in_fourth, in_map, in_second, in_third, in_seventh, in_sixth, passing_in, reaches_in, to_each_reaches}
+use Rattle.mum_command_laws.proofs.{Knowing.empty_is, Contained.any_of, Contained.in_first, Contained.in_fourth, Contained.in_map, Contained.in_second, Contained.in_third, Contained.in_seventh, Contained.in_sixth, Contained.passing_in, Contained.reaches_in, Contained.to_each_reaches}
 
 -- ---- the parts of what is sent
 

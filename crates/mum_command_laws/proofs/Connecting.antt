@@ -1,25 +1,7 @@
--- A version that was told stays, and the commands of a session are asked.
-use Rattle.std.proofs.Common.{◌≡◌, ◌⊎◌, ℕ, ◌==◌, Bool, true, false, cond, List, [], ◌∷◌, Option, Some, None, refl, Ok, Err, ap, sym, subst, inl, inr}
-use Rattle.std.specs.List.{All}
-use Rattle.std.specs.Option.{is_some}
-use Rattle.std.proofs.lemmas.List.Elements.{All-cons, All-nil}
-use Rattle.mum_base.specs.declared.number.SessionId.{SessionId}
-use Rattle.mum_base.specs.declared.outcome.Reason.TheVariants.{Malformed, TooLong}
-use Rattle.mum_fields.specs.Message.{or_else}
-use Rattle.mum_fields.specs.Table.{decoded}
-use Rattle.mum_frame.specs.declared.kind.TheConstants.{ACL, CHANNEL_REMOVE, CHANNEL_STATE, PERMISSION_QUERY, TEXT_MESSAGE, USER_REMOVE, USER_STATE, VERSION, VOICE_TARGET}
-use Rattle.mum_msg_state.specs.Messages.{version}
-use Rattle.mum_session.specs.Action.{Decoded, action, after_frame, command_action, ignore, version_after}
-use Rattle.mum_session.specs.Heard.{command_heard}
-use Rattle.mum_session.specs.Machine.{Machine, is_rejected}
-use Rattle.mum_session.specs.declared.action.Action.{Action}
-use Rattle.mum_session.specs.declared.action.Action.TheVariants.{Ask}
-use Rattle.mum_session.specs.declared.command.Asked.{Asked}
-use Rattle.mum_session.specs.declared.heard.Heard.{Heard}
+-- A version that was sent stays, and the commands of a session are asked.
+use Rattle.mum_command_laws.proofs.Common.{◌≡◌, ◌⊎◌, ℕ, ◌==◌, Bool, true, false, cond, List, [], ◌∷◌, Option, Some, None, refl, Ok, Err, ap, sym, subst, inl, inr, All, is_some, All-cons, All-nil, SessionId, Malformed, TooLong, or_else, decoded, ACL, CHANNEL_REMOVE, CHANNEL_STATE, PERMISSION_QUERY, USER_REMOVE, USER_STATE, VERSION, VOICE_TARGET, version, Decoded, action, after_frame, command_action, ignore, version_after, command_heard, Machine, is_rejected, Action, Ask, Asked, Heard, Stage, LoggedIn, CommandsAreAsked, VersionsStay, commands}
+use Rattle.mum_frame.specs.declared.kind.TheConstants.{TEXT_MESSAGE}
 use Rattle.mum_session.specs.declared.heard.Heard.TheVariants as heard
-use Rattle.mum_session.specs.declared.session.Stage.{Stage}
-use Rattle.mum_session.specs.declared.session.Stage.TheVariants.{LoggedIn}
-use Rattle.mum_command_laws.specs.Connections.{CommandsAreAsked, VersionsStay, commands}
 
 -- ---- versions
 

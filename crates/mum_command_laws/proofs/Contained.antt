@@ -1,14 +1,5 @@
 -- What is in a list of parcels.
-use Rattle.std.proofs.Common.{◌≡◌, ◌⊎◌, ℕ, ◌==◌, ◌||◌, Bool, true, false, true≢false, not, cond, List, [], ◌∷◌, ◌++◌, map, refl, ap, sym, ◌∙◌, subst, arith, inl, inr, ⊎_elim}
-use Rattle.std.specs.List.{All, Contains, filter, flat_map, list_any}
-use Rattle.std.proofs.lemmas.Bool.{cases_Bool, eqb-true, or_left, or_right}
-use Rattle.std.proofs.lemmas.List.Elements.{All-cons, All-contains, All-contains_itself, All-nil, All-weaker, Contains-append_left, Contains-append_right, Contains-get_or}
-use Rattle.mum_base.specs.Channels.{is_among}
-use Rattle.mum_base.specs.declared.number.ChannelId.{ChannelId}
-use Rattle.mum_users.specs.declared.user.User.{User}
-use Rattle.mum_notify.specs.Parcels.{all_to_each, parcel, to_each}
-use Rattle.mum_notify.specs.declared.notice.Notice.{Notice}
-use Rattle.mum_command_laws.specs.Reports.{ReachesAll}
+use Rattle.mum_command_laws.proofs.Common.{◌≡◌, ◌⊎◌, ℕ, ◌==◌, ◌||◌, Bool, true, false, true≢false, not, cond, List, [], ◌∷◌, ◌++◌, map, refl, ap, sym, ◌∙◌, subst, arith, inl, inr, ⊎_elim, All, Contains, filter, flat_map, list_any, cases_Bool, eqb-true, or_left, or_right, All-cons, All-contains, All-contains_itself, All-nil, All-weaker, Contains-append_left, Contains-append_right, Contains-get_or, is_among, ChannelId, User, all_to_each, parcel, to_each, Notice, ReachesAll}
 
 pub first_in : {X : Type 0} (x : X) (xs : List X) → Contains (x ∷ xs) x
 first_in x xs = Contains-get_or (x ∷ xs) 0 x (omega arith)

@@ -1,28 +1,6 @@
 -- What an accepted login shows of whoever logs in.
-use Rattle.std.proofs.Common.{◌≡◌, ◌≢◌, ℕ, Bool, true, false, true≢false, cond, List, [], ◌∷◌, Option, Some, None, refl, ap, sym, ◌∙◌, subst, arith, ⊎_elim}
-use Rattle.std.specs.List.{All, Contains, find}
-use Rattle.std.specs.Option.{option_map, option_map_or}
-use Rattle.std.proofs.lemmas.Bool.{cases_Bool, not-false}
-use Rattle.std.proofs.lemmas.List.Elements.{All-cons, All-nil, Contains-append_right, Contains-get_or}
-use Rattle.std.proofs.lemmas.Slice.Eq.{bytes_eq-Decides}
-use Rattle.sha2.specs.Sha256.{sha256}
-use Rattle.mum_base.specs.Codes.{reason_code, reject_code}
-use Rattle.mum_base.specs.declared.number.{AccountId.AccountId, SessionId.SessionId, Slot.Slot}
-use Rattle.mum_base.specs.declared.outcome.Reason.{Reason}
-use Rattle.mum_base.specs.declared.outcome.RejectType.{RejectType}
-use Rattle.mum_msg_state.specs.declared.authenticate.Authenticate.{Authenticate}
-use Rattle.mum_state.specs.State.{StateValue, account_named, is_named}
-use Rattle.mum_state.specs.declared.account.Account.{Account}
-use Rattle.mum_state.specs.declared.edit.Edit.{Edit}
-use Rattle.mum_state.specs.declared.edit.Edit.TheVariants.{Join as Joins}
-use Rattle.mum_state.specs.declared.verdict.Verdict.TheVariants.{Accepted, Ignored, Rejected}
-use Rattle.mum_rules_tree.specs.Decision.{first_standing}
-use Rattle.mum_rules_tree.proofs.Cleared.{all_off}
-use Rattle.mum_rules_tree.proofs.Firsts.{first_found, something_mapped}
-use Rattle.mum_rules_user.specs.Login.{edit_to_join, is_digest_of, is_no_guest, is_not_the_owner, limits_of_login, name_given, password_given}
-use Rattle.mum_rules_user.specs.Reasons.{reasons}
-use Rattle.mum_rules_user.specs.declared.message.UserMessage.TheVariants.{Join}
-use Rattle.mum_command_laws.specs.Logins.{GuestsAreAsked, JoinsAsItself, LogsInAs, OwnersKnowThePassword}
+use Rattle.mum_command_laws.proofs.Common.{◌≡◌, ◌≢◌, ℕ, Bool, true, false, true≢false, cond, List, [], ◌∷◌, Option, Some, None, refl, ap, sym, ◌∙◌, subst, arith, ⊎_elim, All, Contains, find, option_map, option_map_or, cases_Bool, not-false, All-cons, All-nil, Contains-append_right, Contains-get_or, bytes_eq-Decides, sha256, reason_code, reject_code, AccountId, SessionId, Slot, Reason, RejectType, Authenticate, StateValue, account_named, Account, Edit, Joins, Accepted, Ignored, Rejected, first_standing, all_off, first_found, something_mapped, edit_to_join, is_digest_of, is_no_guest, is_not_the_owner, limits_of_login, name_given, password_given, reasons, Join, GuestsAreAsked, JoinsAsItself, LogsInAs, OwnersKnowThePassword}
+use Rattle.mum_state.specs.State.{is_named}
 
 joined_at : (reason : Option Reason) (limit : Option RejectType) (rest edit : Edit)
     → option_map_or (λ r. Ignored (reason_code r)) reason (option_map_or (λ l. Rejected (reject_code l)) limit (Accepted rest)) ≡ Accepted edit

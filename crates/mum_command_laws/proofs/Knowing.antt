@@ -1,13 +1,5 @@
--- What is known after one message, which is sent where it tells something.
-use Rattle.std.proofs.Common.{◌≡◌, ℕ, ◌==◌, Bool, true, false, true≢false, cond, List, [], ◌∷◌, length, Option, Some, None, refl, sym, append-nil}
-use Rattle.std.specs.List.{All, flat_map}
-use Rattle.std.specs.Option.{is_some, unwrap_or}
-use Rattle.std.proofs.lemmas.Bool.{eqb-true}
-use Rattle.std.proofs.lemmas.List.Elements.{All-cons, All-nil}
-use Rattle.mum_state.specs.Kinds.{is_empty}
-use Rattle.mum_notify.specs.Channels.{said_unless}
-use Rattle.mum_notify.specs.Users.{flag_told}
-use Rattle.mum_command_laws.specs.Reports.{known}
+-- What is known after one message, which is sent where it reports something.
+use Rattle.mum_command_laws.proofs.Common.{◌≡◌, ℕ, ◌==◌, Bool, true, false, true≢false, cond, List, [], ◌∷◌, length, Option, Some, None, refl, sym, append-nil, All, flat_map, is_some, unwrap_or, eqb-true, All-cons, All-nil, is_empty, said_unless, flag_told, known}
 
 pub known_after : {M X : Type 0} (field : M → Option X) (start final : X) (told : M) (b : Bool) → unwrap_or (field told) start ≡ final
     → (b ≡ false → is_some (field told) ≡ false) → known field start (cond b (told ∷ []) []) ≡ final

@@ -1,39 +1,8 @@
--- What is reported of a session tells all that is another of it.
-use Rattle.std.proofs.Common.{◌≡◌, ℕ, zero, suc, ◌==◌, ◌||◌, Bool, true, false, true≢false, not, cond, List, [], ◌∷◌, map, Option, Some, None, refl, ap, sym, ◌∙◌, subst, arith, inl, inr, ⊎_elim, ◌⊎◌}
-use Rattle.std.specs.List.{All, Contains, filter, list_any}
-use Rattle.std.specs.Option.{is_some, option_map_or}
-use Rattle.std.specs.Str.{bytes_eq}
-use Rattle.std.proofs.lemmas.Bool.{and_from, cases_Bool, eq-eqb, not-false, or_left, or_parts, or_right}
-use Rattle.std.proofs.lemmas.List.Elements.{All-cons, All-contains, All-nil, All-weaker}
-use Rattle.std.proofs.lemmas.Slice.Eq.{bytes_eq-Decides}
-use Rattle.mum_base.specs.declared.number.SessionId.{SessionId}
-use Rattle.mum_msg_state.specs.declared.user_state.UserState.{UserState}
-use Rattle.mum_users.specs.Listeners.{listens, pairs_of}
-use Rattle.mum_users.specs.Sessions.{session_of}
-use Rattle.mum_users.specs.State.{RosterState, has_number, is_of_session, is_pair}
-use Rattle.mum_users.specs.declared.listening.ListenerPair.{ListenerPair}
-use Rattle.mum_users.specs.declared.user.User.{User}
-use Rattle.mum_state.specs.Applied.{applied}
-use Rattle.mum_state.specs.Kinds.{is_empty}
-use Rattle.mum_state.specs.Named.{given}
-use Rattle.mum_state.specs.Proper.{IsProper}
-use Rattle.mum_state.specs.State.{StateValue}
-use Rattle.mum_state.specs.declared.edit.Edit.{Edit}
-use Rattle.mum_state.specs.declared.edit.Edit.TheVariants.{MakeChannel, RemoveChannel, SetAcl, SetTokens, SetUser}
-use Rattle.mum_state.proofs.Each.{Each, found_passes}
-use Rattle.mum_state.proofs.Keeping.{fit_proper}
-use Rattle.mum_state.proofs.Seats.{session_alone}
-use Rattle.mum_notify.specs.Channels.{if_it_tells}
-use Rattle.mum_notify.specs.Notices.{closes, notices}
-use Rattle.mum_notify.specs.Parcels.{all_to_each, user_frame}
-use Rattle.mum_notify.specs.Users.{gives_comment, tells_of_user, user_change_told, user_changes_told, user_difference, watched, whom_to_watch}
-use Rattle.mum_notify.proofs.Unwatched.{comments_stand_lem, other_sessions_stand_lem}
-use Rattle.mum_command_laws.specs.Reports.{LearnsListening, LearnsUser, ReachesAll, UserChangesAreReported}
-use Rattle.mum_command_laws.proofs.Brought.{in_changes_of_users}
-use Rattle.mum_command_laws.proofs.Contained.{each_reaches, first_in, in_flat_map, in_map, passes_or_listed, reaches_in}
-use Rattle.mum_command_laws.proofs.Knowing.{each_of_told, flag_known, known_after, listed_after, number_known, said_known}
+-- What is reported of a session reports all that changed in it.
+use Rattle.mum_command_laws.proofs.Common.{◌≡◌, ℕ, zero, suc, ◌==◌, ◌||◌, Bool, true, false, true≢false, not, cond, List, [], ◌∷◌, map, Option, Some, None, refl, ap, sym, ◌∙◌, subst, arith, inl, inr, ⊎_elim, ◌⊎◌, All, Contains, filter, list_any, is_some, option_map_or, bytes_eq, and_from, cases_Bool, eq-eqb, not-false, or_left, or_parts, or_right, All-cons, All-contains, All-nil, All-weaker, bytes_eq-Decides, SessionId, UserState, listens, pairs_of, session_of, RosterState, has_number, is_of_session, is_pair, ListenerPair, User, applied, is_empty, given, IsProper, StateValue, Edit, MakeChannel, RemoveChannel, SetAcl, SetTokens, SetUser, Each, found_passes, fit_proper, session_alone, if_it_tells, closes, notices, all_to_each, user_frame, gives_comment, tells_of_user, user_change_told, user_changes_told, user_difference, watched, whom_to_watch, comments_stand_lem, other_sessions_stand_lem, LearnsListening, LearnsUser, ReachesAll, UserChangesAreReported}
+use Rattle.mum_command_laws.proofs.{Brought.in_changes_of_users, Contained.each_reaches, Contained.first_in, Contained.in_flat_map, Contained.in_map, Contained.passes_or_listed, Contained.reaches_in, Knowing.each_of_told, Knowing.flag_known, Knowing.known_after, Knowing.listed_after, Knowing.number_known, Knowing.said_known}
 
--- ---- a message that tells nothing
+-- ---- a message that reports nothing
 
 record IsUntold (message : UserState) : Type 0 where
   channel : is_some message.channel_id ≡ false
@@ -73,7 +42,7 @@ untold message off =
       ended = not-false (is_empty message.listening_channel_remove) ended;
     }
 
--- ---- what the message of a change tells
+-- ---- what the message of a change reports
 
 comment_said : (gives : Bool) (was now : List ℕ) → (gives ≡ false → now ≡ was) → (not gives || bytes_eq was now) ≡ true → was ≡ now
 comment_said true was now stays same = (bytes_eq-Decides was now).0 same
@@ -203,7 +172,7 @@ is_looked_at state edit false now proper here = inr (none_in now)
 
 -- ---- what is sent
 
--- what is told of a session that is looked at goes to everybody
+-- what is reported of a session that is looked at goes to everybody
 sent_to_all : (before : StateValue) (edit : Edit) (after : StateValue) (now : User)
     → Contains (watched (whom_to_watch edit (closes before edit after)) after.roster) now
     → All (λ message. ReachesAll (notices before edit after) (user_frame message) after.roster.sessions) (user_difference before edit after now)

@@ -1,36 +1,8 @@
--- What is reported of a channel tells all that is another of it.
-use Rattle.std.proofs.Common.{◌≡◌, ℕ, ◌==◌, Bool, true, false, not, List, [], map, Option, Some, refl, ap, sym, ◌∙◌, subst, inl, inr, ⊎_elim, ◌⊎◌}
-use Rattle.std.specs.Cmp.{signed_Decides}
-use Rattle.std.specs.List.{All, Contains, filter}
-use Rattle.std.specs.Option.{is_some, option_map_or}
-use Rattle.std.specs.Ordering.{int_eq}
-use Rattle.std.specs.Str.{bytes_eq}
-use Rattle.std.proofs.lemmas.Bool.{cases_Bool, eq-eqb, eqb-true, not-false, or_parts}
-use Rattle.std.proofs.lemmas.List.Elements.{All-contains, All-contains_itself, All-filter, All-nil, All-weaker}
-use Rattle.std.proofs.lemmas.Slice.Eq.{bytes_eq-Decides}
-use Rattle.mum_base.specs.Channels.{is_among}
-use Rattle.mum_base.specs.declared.number.ChannelId.{ChannelId}
-use Rattle.mum_msg_state.specs.declared.channel_state.ChannelState.{ChannelState}
-use Rattle.mum_tree.specs.Rows.{is_there, number, row_of}
-use Rattle.mum_tree.specs.State.{TreeState, partners}
-use Rattle.mum_tree.specs.declared.channel.Channel.{Channel}
-use Rattle.mum_tree.specs.declared.channel.Row.{Row}
-use Rattle.mum_state.specs.Applied.{applied}
-use Rattle.mum_state.specs.Kinds.{is_empty}
-use Rattle.mum_state.specs.State.{StateValue}
-use Rattle.mum_state.specs.declared.edit.Edit.{Edit}
-use Rattle.mum_state.proofs.Each.{found_passes}
-use Rattle.mum_rules_tree.proofs.Firsts.{something_mapped}
-use Rattle.mum_notify.specs.Channels.{channel_change_told, channel_changes_told, channel_difference, channel_of, edited_channels, if_it_tells, tells_of_channel}
-use Rattle.mum_notify.specs.Notices.{notices}
-use Rattle.mum_notify.specs.Parcels.{all_to_each, channel_frame}
-use Rattle.mum_notify.proofs.Standing.{other_channels_stand_lem}
-use Rattle.mum_command_laws.specs.Reports.{ChannelChangesAreReported, LearnsChannel, LearnsLinks, ReachesAll}
-use Rattle.mum_command_laws.proofs.Brought.{in_changes_of_channels}
-use Rattle.mum_command_laws.proofs.Contained.{among_in, any_of, each_reaches, in_flat_map, in_map, passes_or_listed, passing_in, reaches_in}
-use Rattle.mum_command_laws.proofs.Knowing.{each_of_told, known_after, listed_after, number_known, said_known}
+-- What is reported of a channel reports all that changed in it.
+use Rattle.mum_command_laws.proofs.Common.{◌≡◌, ℕ, ◌==◌, Bool, true, false, not, List, [], map, Option, Some, refl, ap, sym, ◌∙◌, subst, inl, inr, ⊎_elim, ◌⊎◌, signed_Decides, All, Contains, filter, is_some, option_map_or, int_eq, bytes_eq, cases_Bool, eq-eqb, eqb-true, not-false, or_parts, All-contains, All-contains_itself, All-filter, All-nil, All-weaker, bytes_eq-Decides, is_among, ChannelId, ChannelState, is_there, number, row_of, TreeState, partners, Channel, Row, applied, is_empty, StateValue, Edit, found_passes, something_mapped, channel_change_told, channel_changes_told, channel_difference, channel_of, edited_channels, if_it_tells, tells_of_channel, notices, all_to_each, channel_frame, other_channels_stand_lem, ChannelChangesAreReported, LearnsChannel, LearnsLinks, ReachesAll}
+use Rattle.mum_command_laws.proofs.{Brought.in_changes_of_channels, Contained.among_in, Contained.any_of, Contained.each_reaches, Contained.in_flat_map, Contained.in_map, Contained.passes_or_listed, Contained.passing_in, Contained.reaches_in, Knowing.each_of_told, Knowing.known_after, Knowing.listed_after, Knowing.number_known, Knowing.said_known}
 
--- ---- a message that tells nothing
+-- ---- a message that reports nothing
 
 record IsUntold (message : ChannelState) : Type 0 where
   parent : is_some message.parent ≡ false
@@ -58,7 +30,7 @@ untold message off =
       removed = not-false (is_empty message.links_remove) removed;
     }
 
--- ---- what the message of a change tells
+-- ---- what the message of a change reports
 
 module _ (before after : TreeState) (was now : Channel) where
   learned : LearnsChannel (if_it_tells tells_of_channel (channel_change_told before after was now)) was now
@@ -149,7 +121,7 @@ difference_is before after id was now was_is now_is =
     sym (ap (λ (o : Option Channel). option_map_or (λ one. option_map_or (λ other. if_it_tells tells_of_channel (channel_change_told before after one other)) (channel_of after id) []) o []) was_is
     ∙ ap (λ (o : Option Channel). option_map_or (λ other. if_it_tells tells_of_channel (channel_change_told before after was other)) o []) now_is)
 
--- what is told of a channel that is edited goes to everybody
+-- what is reported of a channel that is edited goes to everybody
 sent_to_all : (before : StateValue) (edit : Edit) (after : StateValue) (id : ChannelId) → is_among (edited_channels edit) id ≡ true
     → All (λ message. ReachesAll (notices before edit after) (channel_frame message) after.roster.sessions) (channel_difference before.tree after.tree id)
 sent_to_all before edit after id edited =

@@ -1,3 +1,4 @@
+mod Common
 mod Arrived
 mod Brought
 mod Connecting

@@ -1,13 +1,5 @@
 -- Of needs that are all met, each is met.
-use Rattle.std.proofs.Common.{◌≡◌, ◌||◌, Bool, true, false, List, [], ◌∷◌, ◌++◌, map, refl, sym, ◌∙◌}
-use Rattle.std.specs.List.{All}
-use Rattle.std.proofs.lemmas.List.Elements.{All-cons, All-head, All-nil, All-tail}
-use Rattle.mum_base.specs.declared.number.ChannelId.{ChannelId}
-use Rattle.mum_base.specs.declared.perm.Perm.{Perm}
-use Rattle.mum_policy.specs.Member.{Actor}
-use Rattle.mum_state.specs.State.{StateValue}
-use Rattle.mum_rules_tree.specs.Decision.{Need, Way, is_met, is_open, need, way}
-use Rattle.mum_rules_tree.specs.Laws.{AllMet}
+use Rattle.mum_command_laws.proofs.Common.{◌≡◌, ◌||◌, Bool, true, false, List, [], ◌∷◌, ◌++◌, map, refl, sym, ◌∙◌, All, All-cons, All-head, All-nil, All-tail, ChannelId, Perm, Actor, StateValue, Need, Way, is_met, is_open, need, way, AllMet}
 
 pub or_none : (a : Bool) → (a || false) ≡ true → a ≡ true
 or_none true on = refl

@@ -1,47 +1,6 @@
 -- What an accepted kick, a UserState that listens and a text show of the permissions of whoever sent them.
-use Rattle.std.proofs.Common.{◌≡◌, ℕ, ◌||◌, Bool, true, false, true≢false, not, cond, List, [], ◌∷◌, ◌++◌, length, map, Option, Some, None, refl, ap, sym, ◌∙◌, subst, arith, ⊎_elim}
-use Rattle.std.specs.List.{All, cons_option, filter}
-use Rattle.std.specs.Option.{option_map, option_map_or}
-use Rattle.std.proofs.lemmas.Bool.{cases_Bool, eqb-true, ne_eqb, not-false, or_parts}
-use Rattle.std.proofs.lemmas.List.Elements.{All-append, All-cons, All-head, All-nil, All-tail}
-use Rattle.mum_base.specs.Codes.{reason_code}
-use Rattle.mum_base.specs.declared.number.ChannelId.{ChannelId}
-use Rattle.mum_base.specs.declared.number.SessionId.{SessionId}
-use Rattle.mum_base.specs.declared.number.TheConstants.ChannelId.{ROOT}
-use Rattle.mum_base.specs.declared.outcome.Reason.TheVariants.{NotThere}
-use Rattle.mum_base.specs.declared.perm.TheConstants.Perm.{BAN, KICK, LISTEN, TEXT_MESSAGE}
-use Rattle.mum_msg_rule.specs.declared.text_message.TextMessage.{TextMessage}
-use Rattle.mum_msg_state.specs.declared.user_remove.UserRemove.{UserRemove}
-use Rattle.mum_msg_state.specs.declared.user_state.UserState.{UserState}
-use Rattle.mum_policy.specs.Member.{Actor}
-use Rattle.mum_tree.specs.Rows.{is_there}
-use Rattle.mum_users.specs.Sessions.{session_of}
-use Rattle.mum_users.specs.State.{RosterState}
-use Rattle.mum_users.specs.declared.user.User.{User}
-use Rattle.mum_state.specs.Kinds.{is_empty}
-use Rattle.mum_state.specs.Permissions.{granted_where_there}
-use Rattle.mum_state.specs.State.{StateValue}
-use Rattle.mum_state.specs.declared.edit.Edit.{Edit}
-use Rattle.mum_state.specs.declared.edit.Edit.TheVariants.{Kick as Kicks, SetUser, Text as SendsText}
-use Rattle.mum_state.specs.declared.verdict.Verdict.TheVariants.{Accepted, Answer, Ignored}
-use Rattle.mum_rules_tree.specs.Asked.{channel, is_number_there}
-use Rattle.mum_rules_tree.specs.Decision.{first_lack, first_standing, need, way}
-use Rattle.mum_rules_tree.specs.Laws.{AllMet}
-use Rattle.mum_rules_tree.proofs.Cleared.{all_off}
-use Rattle.mum_rules_tree.proofs.Complete.{outcome_at}
-use Rattle.mum_rules_tree.proofs.Firsts.{all_met_where}
-use Rattle.mum_rules_user.specs.Asked.{channels, channels_of, channels_there, channels_told, command_of, is_here, is_oneself, names_there, session_numbered, session_or, sets_own}
-use Rattle.mum_rules_user.specs.Laws.{needs_of}
-use Rattle.mum_rules_user.specs.Limits.{limits}
-use Rattle.mum_rules_user.specs.Needs.{needs_to_listen, needs_to_move, needs_to_rule_speech}
-use Rattle.mum_rules_user.specs.Outcome.{answer_frame, edit_to_change, edit_to_kick, edit_to_tell, outcome}
-use Rattle.mum_rules_user.specs.Reasons.{reasons}
-use Rattle.mum_rules_user.specs.Verdict.{actor_for, user_verdict}
-use Rattle.mum_rules_user.specs.declared.message.UserMessage.{UserMessage}
-use Rattle.mum_rules_user.specs.declared.message.UserMessage.TheVariants.{Join, User as Changes, Kick, Text, Target, Query, Leave}
-use Rattle.mum_rules_user.proofs.Access.{leaves_own_to_others_lem}
-use Rattle.mum_rules_user.proofs.Firsts.{clear}
-use Rattle.mum_command_laws.specs.UserCommands.{KicksWherePermitted, ListensWherePermitted, TextsWherePermitted, may_by}
+use Rattle.mum_command_laws.proofs.Common.{◌≡◌, ℕ, ◌||◌, Bool, true, false, true≢false, not, cond, List, [], ◌∷◌, ◌++◌, length, map, Option, Some, None, refl, ap, sym, ◌∙◌, subst, arith, ⊎_elim, All, cons_option, filter, option_map, option_map_or, cases_Bool, eqb-true, ne_eqb, not-false, or_parts, All-append, All-cons, All-head, All-nil, All-tail, reason_code, ChannelId, SessionId, ROOT, NotThere, BAN, KICK, LISTEN, TEXT_MESSAGE, TextMessage, UserRemove, UserState, Actor, is_there, session_of, RosterState, User, is_empty, granted_where_there, StateValue, Edit, Kicks, SetUser, SendsText, Accepted, Answer, Ignored, channel, is_number_there, first_lack, first_standing, need, way, AllMet, all_off, outcome_at, all_met_where, channels, channels_of, channels_there, channels_told, is_here, is_oneself, session_numbered, session_or, sets_own, needs_to_listen, needs_to_rule_speech, edit_to_kick, edit_to_tell, reasons, actor_for, user_verdict, UserMessage, Join, Changes, Kick, Text, Target, Query, Leave, leaves_own_to_others_lem, clear, KicksWherePermitted, ListensWherePermitted, TextsWherePermitted, may_by}
+use Rattle.mum_rules_user.specs.{Asked.command_of, Asked.names_there, Laws.needs_of, Limits.limits, Needs.needs_to_move, Outcome.answer_frame, Outcome.edit_to_change, Outcome.outcome}
 use Rattle.mum_command_laws.proofs.MetNeeds.{each_open, either_open, first_part, one_open, others_met, rest_met, second_part}
 
 -- ---- what is accepted is what its command comes to, no reason is against it, and each of its needs is met

@@ -1,44 +1,6 @@
 -- What an accepted or an answered message on channels shows of the permissions of whoever sent it.
-use Rattle.std.proofs.Common.{◌≡◌, ℕ, ◌||◌, Bool, true, false, cond, List, [], ◌∷◌, ◌++◌, length, map, Option, Some, None, refl, ap, sym, ◌∙◌, subst, arith}
-use Rattle.std.specs.List.{All}
-use Rattle.std.specs.Option.{is_some, option_map_or}
-use Rattle.std.proofs.lemmas.Bool.{ne_eqb, not-false}
-use Rattle.std.proofs.lemmas.List.Elements.{All-head, All-nil, All-tail, All-weaker}
-use Rattle.mum_base.specs.Codes.{reason_code}
-use Rattle.mum_base.specs.declared.number.ChannelId.{ChannelId}
-use Rattle.mum_base.specs.declared.number.SessionId.{SessionId}
-use Rattle.mum_base.specs.declared.outcome.DenyType.{DenyType}
-use Rattle.mum_base.specs.declared.outcome.Reason.{Reason}
-use Rattle.mum_base.specs.declared.outcome.Reason.TheVariants.{NotThere}
-use Rattle.mum_base.specs.declared.perm.TheConstants.Perm.{LINK_CHANNEL, MAKE_CHANNEL, MAKE_TEMP_CHANNEL, WRITE}
-use Rattle.mum_frame.specs.declared.frame.Frame.{Frame}
-use Rattle.mum_msg_rule.specs.declared.acl.Acl.{Acl as AclMessage}
-use Rattle.mum_msg_state.specs.declared.channel_state.ChannelState.{ChannelState}
-use Rattle.mum_policy.specs.Member.{Actor}
-use Rattle.mum_policy.specs.declared.policy.ChannelPolicy.{ChannelPolicy}
-use Rattle.mum_tree.specs.Refusals.{parent_of}
-use Rattle.mum_tree.specs.declared.channel.ChannelInfo.{ChannelInfo}
-use Rattle.mum_state.specs.Kinds.{is_empty}
-use Rattle.mum_state.specs.State.{StateValue, policy_of}
-use Rattle.mum_state.specs.declared.edit.Edit.{Edit}
-use Rattle.mum_state.specs.declared.edit.Edit.TheVariants.{EditChannel, MakeChannel, RemoveChannel}
-use Rattle.mum_state.specs.declared.verdict.Verdict.{Verdict}
-use Rattle.mum_state.specs.declared.verdict.Verdict.TheVariants.{Accepted, Answer, Ignored}
-use Rattle.mum_rules_tree.specs.Asked.{Command, channel, channel_or_root, command_of, describes, given_unless, is_named_there, is_query, linked_others, names_there, new_name, new_parent, others, parent_of_new}
-use Rattle.mum_rules_tree.specs.Decision.{first_lack, first_standing, is_open, need, way}
-use Rattle.mum_rules_tree.specs.Laws.{AllMet, needs_of}
-use Rattle.mum_rules_tree.specs.Limits.{limits}
-use Rattle.mum_rules_tree.specs.Needs.{making, needs, needs_to_describe, needs_to_link, needs_to_move}
-use Rattle.mum_rules_tree.specs.Outcome.{answer_frame, edit_to_change, edit_to_make, outcome}
-use Rattle.mum_rules_tree.specs.Reasons.{reasons}
-use Rattle.mum_rules_tree.specs.Verdict.{actor_named, tree_verdict}
-use Rattle.mum_rules_tree.specs.declared.message.TreeMessage.{TreeMessage}
-use Rattle.mum_rules_tree.specs.declared.message.TreeMessage.TheVariants.{Acl, Remove, State}
-use Rattle.mum_rules_tree.specs.declared.needs.Lack.{Lack}
-use Rattle.mum_rules_tree.proofs.Cleared.{all_off}
-use Rattle.mum_rules_tree.proofs.Complete.{outcome_at}
-use Rattle.mum_rules_tree.proofs.Firsts.{all_met_where, told}
-use Rattle.mum_command_laws.specs.ChannelCommands.{LinkersLink, MakersMake, WritersDescribe, WritersMove, WritersReadPolicies, WritersRemove}
+use Rattle.mum_command_laws.proofs.Common.{◌≡◌, ℕ, ◌||◌, Bool, true, false, cond, List, [], ◌∷◌, ◌++◌, length, map, Option, Some, None, refl, ap, sym, ◌∙◌, subst, arith, All, is_some, option_map_or, ne_eqb, not-false, All-head, All-nil, All-tail, All-weaker, reason_code, ChannelId, SessionId, DenyType, Reason, NotThere, LINK_CHANNEL, MAKE_CHANNEL, MAKE_TEMP_CHANNEL, WRITE, Frame, AclMessage, ChannelState, Actor, ChannelPolicy, parent_of, ChannelInfo, is_empty, StateValue, policy_of, Edit, EditChannel, MakeChannel, RemoveChannel, Verdict, Accepted, Answer, Ignored, Command, channel, channel_or_root, command_of, describes, given_unless, is_named_there, is_query, linked_others, names_there, new_name, new_parent, parent_of_new, first_lack, first_standing, is_open, need, way, AllMet, needs_of, limits, making, needs, needs_to_describe, needs_to_link, needs_to_move, answer_frame, edit_to_change, edit_to_make, outcome, actor_named, tree_verdict, TreeMessage, Acl, Remove, State, Lack, all_off, outcome_at, all_met_where, told, LinkersLink, MakersMake, WritersDescribe, WritersMove, WritersReadPolicies, WritersRemove}
+use Rattle.mum_rules_tree.specs.{Asked.others, Reasons.reasons}
 use Rattle.mum_command_laws.proofs.MetNeeds.{each_open, either_open, first_met, one_open, others_met, rest_met}
 
 -- ---- what is accepted is what its command comes to, and each of its needs is met

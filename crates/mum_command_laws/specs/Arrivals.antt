@@ -1,21 +1,15 @@
 -- What is reported of a session that arrives and of a channel that is made.
 use Rattle.std.specs.Prelude.{◌≡◌, ℕ, ◌==◌, Bool, false, pos, List, [], ◌∷◌, Option, Some, unwrap_or}
-use Rattle.std.specs.List.{All, Contains}
-use Rattle.std.specs.Option.{option_map}
+use Rattle.std.specs.{List.All, List.Contains, Option.option_map}
 use Rattle.mum_base.specs.declared.number.{AccountId.AccountId, ChannelId.ChannelId, SessionId.SessionId, Slot.Slot}
-use Rattle.mum_msg_state.specs.declared.channel_state.ChannelState.{ChannelState}
-use Rattle.mum_msg_state.specs.declared.user_state.UserState.{UserState}
 use Rattle.mum_tree.specs.Rows.{is_root}
-use Rattle.mum_tree.specs.declared.channel.Channel.{Channel}
-use Rattle.mum_tree.specs.declared.channel.ChannelInfo.{ChannelInfo}
-use Rattle.mum_users.specs.Listeners.{pairs_of}
-use Rattle.mum_users.specs.Sessions.{session_of}
-use Rattle.mum_users.specs.State.{RosterState}
+use Rattle.mum_tree.specs.declared.channel.{Channel.Channel, ChannelInfo.ChannelInfo}
+use Rattle.mum_users.specs.{Listeners.pairs_of, Sessions.session_of, State.RosterState}
 use Rattle.mum_users.specs.declared.user.User.{User}
+use Rattle.mum_msg_state.specs.declared.{channel_state.ChannelState.ChannelState, user_state.UserState.UserState}
 use Rattle.mum_state.specs.State.{StateValue}
 use Rattle.mum_state.specs.declared.edit.Edit.TheVariants.{Join, MakeChannel}
-use Rattle.mum_notify.specs.Channels.{channel_of}
-use Rattle.mum_notify.specs.Notices.{notices}
+use Rattle.mum_notify.specs.{Channels.channel_of, Notices.notices}
 use Rattle.mum_notify.specs.Parcels.{channel_frame, parcel, user_frame}
 use Rattle.mum_command_laws.specs.Reports.{LearnsChannel, LearnsUser, ReachesAll}
 
@@ -43,7 +37,8 @@ pub record SaysAllOfUser (message : UserState) (roster : RosterState) (user : Us
 -- whoever joins is reported to all others, with all of its session
 abbrev pub ArrivalsAreReported : Type 0
 ArrivalsAreReported =
-    (before after : StateValue) (session : SessionId) (slot : Slot) (name : List ℕ) (account : Option AccountId) (tokens : List (List ℕ))
+    (before after : StateValue) (session : SessionId) (slot : Slot) (name : List ℕ) (account : Option AccountId)
+    (tokens : List (List ℕ))
     (user other : User) → session_of after.roster session ≡ Some user
     → Contains after.roster.sessions other → (other.session.0 == session.0) ≡ false
     → (message : UserState) × SaysAllOfUser message after.roster user
@@ -51,7 +46,8 @@ ArrivalsAreReported =
 
 -- what is taken of a channel of which nothing was said: it has no name and nothing that describes it
 abbrev pub plain_channel : Channel → Channel
-plain_channel channel = record channel { name = []; info = record { description = []; position = pos 0; max_users = 0 } }
+plain_channel channel =
+    record channel { name = []; info = record { description = []; position = pos 0; max_users = 0 } }
 
 -- the message says all of the channel, but for the parent of the root
 pub record SaysAllOfChannel (message : ChannelState) (channel : Channel) : Type 0 where
@@ -62,7 +58,9 @@ pub record SaysAllOfChannel (message : ChannelState) (channel : Channel) : Type 
 -- a channel that is made is reported to everybody, with all of it
 abbrev pub NewChannelsAreReported : Type 0
 NewChannelsAreReported =
-    (before after : StateValue) (id parent : ChannelId) (name : List ℕ) (temporary : Bool) (info : ChannelInfo) (maker : Option SessionId)
+    (before after : StateValue) (id parent : ChannelId) (name : List ℕ) (temporary : Bool) (info : ChannelInfo)
+    (maker : Option SessionId)
     (channel : Channel) → channel_of after.tree id ≡ Some channel
     → (message : ChannelState) × SaysAllOfChannel message channel
-    × ReachesAll (notices before (MakeChannel id parent name temporary info maker) after) (channel_frame message) after.roster.sessions
+    × ReachesAll (notices before (MakeChannel id parent name temporary info maker) after)
+    (channel_frame message) after.roster.sessions

@@ -3,25 +3,15 @@ use Rattle.std.specs.Prelude.{◌≡◌, ◌⊎◌, ℕ, Bool, false, List, [], 
 use Rattle.std.specs.List.{All, Contains, flat_map}
 use Rattle.mum_base.specs.Channels.{is_among}
 use Rattle.mum_base.specs.declared.number.{ChannelId.ChannelId, SessionId.SessionId}
-use Rattle.mum_msg_state.specs.declared.channel_state.ChannelState.{ChannelState}
-use Rattle.mum_msg_state.specs.declared.user_remove.UserRemove.{UserRemove}
-use Rattle.mum_msg_state.specs.declared.user_state.UserState.{UserState}
-use Rattle.mum_tree.specs.Rows.{is_there}
-use Rattle.mum_tree.specs.State.{TreeState, partners}
+use Rattle.mum_tree.specs.{Rows.is_there, State.TreeState, State.partners}
 use Rattle.mum_tree.specs.declared.channel.Channel.{Channel}
-use Rattle.mum_users.specs.Listeners.{listens, pairs_of}
-use Rattle.mum_users.specs.Sessions.{session_of}
-use Rattle.mum_users.specs.State.{RosterState}
+use Rattle.mum_users.specs.{Listeners.listens, Listeners.pairs_of, Sessions.session_of, State.RosterState}
 use Rattle.mum_users.specs.declared.user.User.{User}
-use Rattle.mum_state.specs.Applied.{applied}
-use Rattle.mum_state.specs.Fits.{fits}
-use Rattle.mum_state.specs.Proper.{IsProper}
-use Rattle.mum_state.specs.State.{StateValue}
-use Rattle.mum_state.specs.declared.edit.Edit.{Edit}
-use Rattle.mum_state.specs.declared.edit.Edit.TheVariants.{Kick, Leave}
-use Rattle.mum_notify.specs.Channels.{channel_of}
-use Rattle.mum_notify.specs.Laws.{IsFor}
-use Rattle.mum_notify.specs.Notices.{notices}
+use Rattle.mum_msg_state.specs.declared.{channel_state.ChannelState.ChannelState, user_remove.UserRemove.UserRemove}
+use Rattle.mum_msg_state.specs.declared.user_state.UserState.{UserState}
+use Rattle.mum_state.specs.{Applied.applied, Fits.fits, Proper.IsProper, State.StateValue}
+use Rattle.mum_state.specs.declared.edit.Edit.{Edit, TheVariants.Kick, TheVariants.Leave}
+use Rattle.mum_notify.specs.{Channels.channel_of, Laws.IsFor, Notices.notices}
 use Rattle.mum_notify.specs.Parcels.{channel_frame, parcel, user_frame, user_gone_frame}
 use Rattle.mum_notify.specs.declared.notice.Notice.{Notice}
 
@@ -52,9 +42,13 @@ pub record LearnsUser (messages : List UserState) (was now : User) : Type 0 wher
 -- each channel to which the session listens now and did not is among those that these messages add, and each to which it
 -- did and does not now is among those that they remove
 pub record LearnsListening (messages : List UserState) (session : SessionId) (before after : RosterState) : Type 0 where
-  pub begun : All (λ pair. IsTrue (listens before session pair.channel) ⊎ Contains (flat_map (λ message. message.listening_channel_add) messages) pair.channel.0)
+  pub begun : All
+      (λ pair. IsTrue (listens before session pair.channel)
+      ⊎ Contains (flat_map (λ message. message.listening_channel_add) messages) pair.channel.0)
       (pairs_of after session)
-  pub ended : All (λ pair. IsTrue (listens after session pair.channel) ⊎ Contains (flat_map (λ message. message.listening_channel_remove) messages) pair.channel.0)
+  pub ended : All
+      (λ pair. IsTrue (listens after session pair.channel)
+      ⊎ Contains (flat_map (λ message. message.listening_channel_remove) messages) pair.channel.0)
       (pairs_of before session)
 
 -- of each session that is there before an edit and after it, messages go to everybody that say all that is another of it
@@ -64,7 +58,8 @@ UserChangesAreReported =
     → Contains (applied state edit).roster.sessions now → session_of state.roster now.session ≡ Some was
     → (messages : List UserState) × LearnsUser messages was now
     × LearnsListening messages now.session state.roster (applied state edit).roster
-    × All (λ message. ReachesAll (notices state edit (applied state edit)) (user_frame message) (applied state edit).roster.sessions) messages
+    × All (λ message. ReachesAll (notices state edit (applied state edit)) (user_frame message)
+    (applied state edit).roster.sessions) messages
 
 -- ---- channels
 
@@ -80,9 +75,13 @@ pub record LearnsChannel (messages : List ChannelState) (was now : Channel) : Ty
 -- each channel that is linked to it now and was not is among those that these messages add; and each that was, and is not
 -- now, is gone or among those that they remove
 pub record LearnsLinks (messages : List ChannelState) (id : ChannelId) (before after : TreeState) : Type 0 where
-  pub added : All (λ other. IsTrue (is_among (partners before id) other) ⊎ Contains (flat_map (λ message. message.links_add) messages) other.0)
+  pub added : All
+      (λ other. IsTrue (is_among (partners before id) other)
+      ⊎ Contains (flat_map (λ message. message.links_add) messages) other.0)
       (partners after id)
-  pub removed : All (λ other. (is_there after.channels other ≡ false) ⊎ IsTrue (is_among (partners after id) other) ⊎ Contains (flat_map (λ message. message.links_remove) messages) other.0)
+  pub removed : All
+      (λ other. (is_there after.channels other ≡ false) ⊎ IsTrue (is_among (partners after id) other)
+      ⊎ Contains (flat_map (λ message. message.links_remove) messages) other.0)
       (partners before id)
 
 -- of each channel that is there before an edit and after it, messages go to everybody that say all that is another of it
@@ -92,7 +91,8 @@ ChannelChangesAreReported =
     → channel_of state.tree id ≡ Some was → channel_of (applied state edit).tree id ≡ Some now
     → (messages : List ChannelState) × LearnsChannel messages was now
     × LearnsLinks messages now.id state.tree (applied state edit).tree
-    × All (λ message. ReachesAll (notices state edit (applied state edit)) (channel_frame message) (applied state edit).roster.sessions) messages
+    × All (λ message. ReachesAll (notices state edit (applied state edit)) (channel_frame message)
+    (applied state edit).roster.sessions) messages
 
 -- ---- who goes
 

@@ -1,4 +1,4 @@
-//! What becomes of what a connection told, of what it asks for, and of what it is answered. These functions do nothing:
+//! What becomes of what a connection sent, of what it asks for, and of what it is answered. These functions do nothing:
 //! each contract is a theorem.
 
 ghost use Rattle.std.specs.Prelude.{◌≡◌, None, Some};
@@ -8,7 +8,7 @@ ghost use Rattle.mum_base.specs.declared.reply.ReplyEnd.TheVariants.{Decided, Jo
 ghost use Rattle.mum_session.specs.Machine.{Machine, answered, session_of};
 ghost use Rattle.mum_command_laws.specs.Connections.{CommandsAreAsked, VersionsStay};
 
-/// A connection that told its version is never without one again.
+/// A connection that sent its version is never without one again.
 pub fn versions_stay()
     ensures { VersionsStay }
 {}

@@ -1,34 +1,7 @@
 -- States to which configurations lead: nobody is there, and counts have room for what is left.
-use Rattle.std.proofs.Common.{◌≡◌, ℕ, suc, ◌+◌, ◌≤◌, ◌&&◌, ◌||◌, not, Bool, true, false, cond, ltb, List, [], ◌∷◌, map, replicate, refl, ap, ◌∙◌, arith, None}
-use Rattle.std.specs.List.{list_any}
-use Rattle.std.proofs.lemmas.Bool.{and_from, false≢true, lt-ltb}
-use Rattle.std.proofs.lemmas.List.{length-replicate}
-use Rattle.std.proofs.lemmas.List.Elements.{All-replicate}
-use Rattle.mum_base.specs.declared.number.TheConstants.{SLOTS}
-use Rattle.mum_tree.specs.declared.channel.Row.{Row}
-use Rattle.mum_tree.proofs.Start.{root_proper}
-use Rattle.mum_users.specs.declared.user.User.{User}
-use Rattle.mum_users.specs.Proper.{IsProper as IsProperRoster}
-use Rattle.mum_users.specs.State.{empty_roster}
-use Rattle.mum_state.specs.declared.count.TheConstants.{EDIT_LIMIT}
-use Rattle.mum_state.specs.declared.edit.Edit.{Edit}
-use Rattle.mum_state.specs.declared.edit.Edit.TheVariants.{AddAccount, EditChannel, MakeChannel, SetAcl, SetLimits, SetServer, SetUser}
-use Rattle.mum_state.specs.After.{all_fit}
-use Rattle.mum_state.specs.Applied.{applied}
-use Rattle.mum_state.specs.Counts.{counts_after, raised_where}
-use Rattle.mum_state.specs.Emptied.{empties, has_member, is_emptied, without_emptied}
-use Rattle.mum_state.specs.Fits.{fits, gives_right_numbers, has_room_for, is_countable, sets_properly}
-use Rattle.mum_state.specs.Kinds.{changes_paths, changes_routes, is_of_configuration}
-use Rattle.mum_state.specs.Named.{names_there}
-use Rattle.mum_state.specs.Proper.{AreCounts, IsNear, IsProper}
-use Rattle.mum_state.specs.Set.{set_by}
-use Rattle.mum_state.specs.State.{StateValue, empty_state, no_counts}
-use Rattle.mum_state.specs.Suppression.{heard_anew, is_set_anew, with_clearing, with_suppression}
-use Rattle.mum_state.proofs.Fitting.{fit_from}
-use Rattle.mum_state.proofs.Keeping.{fit_proper}
-use Rattle.mum_state.proofs.Quiet.{nothing_emptied}
+use Rattle.mum_config.proofs.Common.{◌≡◌, ℕ, suc, ◌+◌, ◌≤◌, ◌&&◌, ◌||◌, not, Bool, true, false, cond, ltb, List, [], ◌∷◌, map, replicate, refl, ap, ◌∙◌, arith, None, list_any, and_from, false≢true, lt-ltb, length-replicate, All-replicate, SLOTS, Row, root_proper, User, IsProperRoster, empty_roster, EDIT_LIMIT, Edit, AddAccount, EditChannel, MakeChannel, SetAcl, SetLimits, SetServer, SetUser, all_fit, applied, counts_after, raised_where, empties, has_member, is_emptied, without_emptied, fits, gives_right_numbers, has_room_for, is_countable, sets_properly, changes_paths, changes_routes, is_of_configuration, names_there, AreCounts, IsNear, IsProper, set_by, StateValue, empty_state, no_counts, heard_anew, is_set_anew, with_clearing, with_suppression, fit_from, fit_proper, nothing_emptied}
 
--- nobody is there, and so many edits more can be counted
+-- nobody is there, and n edits more can be counted
 pub record IsBare (left : ℕ) (state : StateValue) : Type 0 where
   pub proper : IsProper state
   pub nobody : state.roster.sessions ≡ []

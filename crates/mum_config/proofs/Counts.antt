@@ -1,13 +1,5 @@
 -- Counts of links.
-use Rattle.std.proofs.Common.{◌≡◌, ℕ, ◌+◌, Bool, true, false, cond, not, ◌||◌, List, [], ◌∷◌, ◌++◌, Option, Some, refl, sym, ap, ◌∙◌, arith, count_by, zero-add}
-use Rattle.std.specs.Prelude.{nat_eq, unwrap_or}
-use Rattle.std.specs.Map.{lookup}
-use Rattle.std.proofs.lemmas.List.Sums.{sum_by-append}
-use Rattle.std.proofs.lemmas.Bool.Decides.{nat_tests}
-use Rattle.std.specs.List.{list_any}
-use Rattle.std.proofs.lemmas.Bool.{and_parts}
-use Rattle.indexmap.specs.IndexSet.{insert_key}
-use Rattle.mum_config.specs.Link.{AreCounted, Ends, are_same, ends_of, is_end, is_new, link_count}
+use Rattle.mum_config.proofs.Common.{◌≡◌, ℕ, ◌+◌, Bool, true, false, cond, not, ◌||◌, List, [], ◌∷◌, ◌++◌, Option, Some, refl, sym, ap, ◌∙◌, arith, count_by, zero-add, nat_eq, unwrap_or, lookup, sum_by-append, nat_tests, list_any, and_parts, insert_key, AreCounted, Ends, are_same, ends_of, is_end, is_new, link_count}
 
 pub count_by-append : (test : Ends → Bool) (ends more : List Ends) → count_by test (ends ++ more) ≡ count_by test ends + count_by test more
 count_by-append test ends more = sum_by-append (λ x. cond (test x) 1 0) ends more

@@ -1,16 +1,5 @@
 -- The document as a whole.
-use Rattle.std.proofs.Common.{◌≡◌, ℕ, Bool, true, false, List, length, Option, None, Some, Result, Ok, Err, is_some, refl, sym, ap}
-use Rattle.std.specs.Prelude.{codes, is_none, nat_lt}
-use Rattle.std.specs.Str.{IsUtf8, is_utf8}
-use Rattle.std.proofs.lemmas.Str.{IsUtf8-from_is_utf8, is_utf8-from_IsUtf8}
-use Rattle.serde_json.specs.Data.{Data, Members}
-use Rattle.serde_json.specs.Read.{read}
-use Rattle.mum_document.specs.declared.fault.ConfigFault.TheVariants.{NotAnObject, NotJson}
-use Rattle.mum_config.specs.declared.config.Config.{Config}
-use Rattle.mum_document.specs.declared.fault.DocumentError.{DocumentError}
-use Rattle.mum_config.specs.Document.{ReadsText, against_document, config_of, fault_of, object_fault_of, value_of}
-use Rattle.mum_document.specs.Reading.{Reads}
-use Rattle.mum_document.proofs.First.{later, none_said}
+use Rattle.mum_config.proofs.Common.{◌≡◌, ℕ, Bool, true, false, List, length, Option, None, Some, Result, Ok, Err, is_some, refl, sym, ap, codes, is_none, nat_lt, IsUtf8, is_utf8, IsUtf8-from_is_utf8, is_utf8-from_IsUtf8, Data, Members, read, NotAnObject, NotJson, Config, DocumentError, ReadsText, against_document, config_of, fault_of, object_fault_of, value_of, Reads, later, none_said}
 
 pub document_said : (found : Option Members) → is_some found ≡ false → against_document NotAnObject (is_none found) ≡ Some (record { cause = NotAnObject; key = codes "document" })
 document_said None missing = refl

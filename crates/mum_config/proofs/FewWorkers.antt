@@ -1,22 +1,7 @@
 -- The workers of a document of which nothing is said are 1 to 8.
-use Rattle.std.proofs.Common.{◌≡◌, ℕ, ◌≤◌, Bool, true, false, ◌||◌, List, [], ◌++◌, Option, None, Some, Result, Ok, Err, IfOk, refl, ap, subst, arith}
-use Rattle.std.specs.Prelude.{codes, nat_lt, unwrap_or}
-use Rattle.std.specs.Option.{option_map}
-use Rattle.std.proofs.lemmas.Bool.Decides.{nat_tests}
-use Rattle.std.proofs.lemmas.Option.{same_Some}
-use Rattle.serde_json.specs.Data.{Data, array, boolean, float, negative, null, number, object, string, unsigned}
-use Rattle.serde_json.specs.Find.{get}
-use Rattle.mum_state.proofs.Each.{Each}
-use Rattle.mum_config.specs.declared.config.Config.{Config}
-use Rattle.mum_document.specs.declared.fault.DocumentError.{DocumentError}
-use Rattle.mum_document.specs.declared.fault.ConfigFault.TheVariants.{NotAnObject, OutOfRange}
-use Rattle.mum_config.specs.Document.{ReadsText, account_list_rows, against_document, channel_list_rows, channels_met, config_of, document_names, document_rows, link_list_rows, object_fault_of, settings_rows, value_of}
-use Rattle.mum_document.specs.Fault.{against}
-use Rattle.mum_document.specs.Object.{rows_fault, unknown_fault}
-use Rattle.mum_document.specs.Value.{number_fault, number_of, wanted}
-use Rattle.mum_document.proofs.First.{later_none}
-use Rattle.mum_config.proofs.FitDocument.{said_of_value}
-use Rattle.mum_config.proofs.Said.{each_row, rows_apart}
+use Rattle.mum_config.proofs.Common.{◌≡◌, ℕ, ◌≤◌, Bool, true, false, ◌||◌, List, [], ◌++◌, Option, None, Some, Result, Ok, Err, IfOk, refl, ap, subst, arith, codes, nat_lt, unwrap_or, option_map, nat_tests, same_Some, Data, array, boolean, float, negative, null, object, string, unsigned, get, Each, Config, DocumentError, NotAnObject, OutOfRange, ReadsText, account_list_rows, against_document, channel_list_rows, channels_met, config_of, document_names, document_rows, link_list_rows, object_fault_of, settings_rows, value_of, against, rows_fault, unknown_fault, number_fault, number_of, wanted, later_none}
+use Rattle.serde_json.specs.Data.{number}
+use Rattle.mum_config.proofs.{FitDocument.said_of_value, Said.each_row, Said.rows_apart}
 
 -- the workers of a configuration are as many as a server may have
 abbrev IsFew : ℕ → Type 0

@@ -1,28 +1,7 @@
 -- The edits that add accounts fit one after the other.
-use Rattle.std.proofs.Common.{◌≡◌, ℕ, suc, ◌+◌, ◌≤◌, ◌<◌, ◌==◌, ◌&&◌, ◌||◌, not, Bool, true, false, cond, List, [], ◌∷◌, ◌++◌, length, map, None, refl, sym, ap, subst, ◌∙◌, arith}
-use Rattle.std.specs.Prelude.{codes, nat_lt}
-use Rattle.std.specs.List.{list_any}
-use Rattle.std.specs.Str.{bytes_eq}
-use Rattle.std.proofs.lemmas.Bool.{and_from, lt-ltb, not_from_false}
-use Rattle.std.proofs.lemmas.Bool.Decides.{nat_tests}
-use Rattle.std.proofs.lemmas.List.Folds.{list_any-append}
-use Rattle.serde_json.specs.Data.{Data}
-use Rattle.serde_json.specs.Find.{get}
+use Rattle.mum_config.proofs.Common.{◌≡◌, ℕ, suc, ◌+◌, ◌≤◌, ◌<◌, ◌==◌, ◌&&◌, ◌||◌, not, Bool, true, false, cond, List, [], ◌∷◌, ◌++◌, length, map, None, refl, sym, ap, subst, ◌∙◌, arith, codes, nat_lt, list_any, bytes_eq, and_from, lt-ltb, not_from_false, nat_tests, list_any-append, Data, get, ACCOUNT_LIMIT, Edit, AddAccount, all_fit, applied, is_short, StateValue, account_below, has_account, is_named, is_numbered, with_account, Each, length_with, AccountsMet, account_edit, account_fault, account_name, account_names, account_number, account_rows, no_accounts, with_account_met, elements_fault, opening_fault, first_none, later_none, none_within}
 use Rattle.mum_state.specs.declared.account.Account.{Account}
-use Rattle.mum_state.specs.declared.account.TheConstants.{ACCOUNT_LIMIT}
-use Rattle.mum_state.specs.declared.edit.Edit.{Edit}
-use Rattle.mum_state.specs.declared.edit.Edit.TheVariants.{AddAccount}
-use Rattle.mum_state.specs.After.{all_fit}
-use Rattle.mum_state.specs.Applied.{applied}
-use Rattle.mum_state.specs.Proper.{is_short}
-use Rattle.mum_state.specs.State.{StateValue, account_below, has_account, is_named, is_numbered, with_account}
-use Rattle.mum_state.proofs.Each.{Each}
-use Rattle.mum_state.proofs.Orderly.{length_with}
-use Rattle.mum_config.specs.Account.{AccountsMet, account_edit, account_fault, account_name, account_names, account_number, account_rows, no_accounts, with_account_met}
-use Rattle.mum_document.specs.Object.{elements_fault, opening_fault}
-use Rattle.mum_config.proofs.Bare.{IsBare, Leads, leads, less_left, one_more}
-use Rattle.mum_document.proofs.First.{first_none, later_none, none_within}
-use Rattle.mum_config.proofs.Said.{name_good, not_against, object_rows, short_name}
+use Rattle.mum_config.proofs.{Bare.IsBare, Bare.Leads, Bare.leads, Bare.less_left, Bare.one_more, Said.name_good, Said.not_against, Said.object_rows, Said.short_name}
 
 or_move : (a b c : Bool) → (a || (b || c)) ≡ (b || (a || c))
 or_move true true c = refl

@@ -1,50 +1,7 @@
 -- The edits of channels fit one after the other.
-use Rattle.std.proofs.Common.{◌≡◌, ℕ, suc, ◌+◌, ◌*◌, ◌≤◌, ◌<◌, ◌==◌, ◌&&◌, ◌||◌, not, Bool, true, false, cond, eqb, ltb, List, [], ◌∷◌, ◌++◌, length, get_or, fold, Option, None, Some, MatchOption, is_none, is_some, append_assoc, refl, sym, ap, subst, ◌∙◌, arith}
-use Rattle.std.specs.Prelude.{codes, nat_eq, nat_le, pos, unwrap_or}
-use Rattle.std.specs.List.{flat_map, list_any}
-use Rattle.std.specs.Option.{option_and_then, option_map, option_map_or}
-use Rattle.std.proofs.lemmas.Bool.{and_from, eq-eqb, eqb-true, lt-ltb}
-use Rattle.std.proofs.lemmas.Bool.Decides.{nat_tests}
-use Rattle.std.proofs.lemmas.List.{length-append, map-append}
-use Rattle.serde_json.specs.Data.{Data, negative, float, number, unsigned}
-use Rattle.serde_json.specs.Find.{as_number, as_u64, get}
-use Rattle.indexmap.specs.IndexMap.{insert_entry}
-use Rattle.mum_base.specs.declared.number.ChannelId.{ChannelId}
-use Rattle.mum_base.specs.declared.number.TheConstants.ChannelId.{ROOT}
-use Rattle.mum_tree.specs.declared.channel.Channel.{Channel}
-use Rattle.mum_tree.specs.declared.channel.ChannelInfo.{ChannelInfo}
-use Rattle.mum_tree.specs.declared.channel.Row.{Row}
-use Rattle.mum_tree.specs.declared.fault.TreeFault.TheVariants.{Count, Nesting, NoChannel, SameName, TemporaryParent}
-use Rattle.mum_tree.specs.Change.{fault_of_edit, given_or, with_change}
-use Rattle.mum_tree.specs.Places.{least_place}
-use Rattle.mum_tree.specs.Proper.{IsProper as IsProperTree}
-use Rattle.mum_tree.specs.Refusals.{fault_of_add, is_full}
-use Rattle.mum_tree.specs.Rows.{is_taken, is_temporary, is_there, number as number_of_row, path}
-use Rattle.mum_tree.specs.State.{TreeState, changed, new_row, plain_info, with_info, with_new, with_row}
-use Rattle.mum_tree.proofs.Back.{five}
-use Rattle.mum_tree.proofs.Changed.{changed_none}
-use Rattle.mum_tree.proofs.EditBack.{edits_both_ways}
-use Rattle.mum_tree.proofs.Edits.{informed, informed_proper}
-use Rattle.mum_state.specs.declared.edit.Edit.{Edit}
-use Rattle.mum_state.specs.declared.edit.Edit.TheVariants.{EditChannel, MakeChannel, SetAcl}
-use Rattle.mum_state.specs.After.{all_fit}
-use Rattle.mum_state.specs.Applied.{applied}
-use Rattle.mum_state.specs.Fits.{fits, holds_of_given}
-use Rattle.mum_state.specs.Parts.{channel_parts}
-use Rattle.mum_state.specs.Proper.{is_name, is_sound_policy, is_text}
-use Rattle.mum_state.specs.State.{StateValue}
-use Rattle.mum_state.proofs.Each.{Each}
-use Rattle.mum_document.specs.declared.given.GivenInfo.{GivenInfo}
-use Rattle.mum_document.specs.declared.given.GivenPolicy.{GivenPolicy}
-use Rattle.mum_document.specs.Value.{greatest, needed, number_fault, number_of, text_fault, text_of, wanted}
-use Rattle.mum_config.specs.Channel.{ChannelsMet, channel_edits, channel_fault, channel_name, channel_number, depth_above, depth_of, gives_policy, has_seat, info_of, is_root_entry, made_edit, made_fault, name_rows, number_rows, parent_number, parent_rows, policy_edits, policy_of, rises, root_edits, root_fault, shared_names, with_channel_met}
-use Rattle.mum_document.specs.Given.{given_info, given_policy, info_rows, policy_rows}
-use Rattle.mum_document.specs.Object.{elements_fault, opening_fault, rows_fault}
-use Rattle.mum_config.proofs.Bare.{IsBare, Leads, leads, less_left, one_more}
-use Rattle.mum_document.proofs.First.{first_none, later_none, none_within}
-use Rattle.mum_config.proofs.FitPolicies.{sound_policy}
-use Rattle.mum_config.proofs.MetChannels.{AreMet, channel, depth_inserted, met_grown, met_root, not_temporary, root_under, root_with}
-use Rattle.mum_config.proofs.Said.{each_row, name_good, not_against, rows_apart, text_good}
+use Rattle.mum_config.proofs.Common.{◌≡◌, ℕ, suc, ◌+◌, ◌*◌, ◌≤◌, ◌<◌, ◌==◌, ◌&&◌, ◌||◌, not, Bool, true, false, cond, eqb, ltb, List, [], ◌∷◌, ◌++◌, length, get_or, fold, Option, None, Some, MatchOption, is_none, is_some, append_assoc, refl, sym, ap, subst, ◌∙◌, arith, codes, nat_eq, nat_le, pos, unwrap_or, flat_map, list_any, option_and_then, option_map, option_map_or, and_from, eq-eqb, eqb-true, lt-ltb, nat_tests, length-append, map-append, Data, negative, float, unsigned, as_number, as_u64, get, insert_entry, ChannelId, ROOT, Channel, ChannelInfo, Row, Count, Nesting, NoChannel, SameName, TemporaryParent, fault_of_edit, given_or, with_change, least_place, IsProperTree, fault_of_add, is_full, is_taken, is_temporary, is_there, number_of_row, path, TreeState, changed, new_row, plain_info, with_info, with_new, with_row, five, changed_none, edits_both_ways, informed, informed_proper, Edit, EditChannel, MakeChannel, SetAcl, all_fit, applied, fits, holds_of_given, channel_parts, is_name, is_sound_policy, is_text, StateValue, Each, GivenInfo, GivenPolicy, greatest, needed, number_fault, number_of, text_fault, text_of, wanted, ChannelsMet, channel_edits, channel_fault, channel_name, channel_number, depth_above, depth_of, gives_policy, has_seat, info_of, is_root_entry, made_edit, made_fault, name_rows, number_rows, parent_number, parent_rows, policy_edits, policy_of, rises, root_edits, root_fault, shared_names, with_channel_met, given_info, given_policy, info_rows, policy_rows, elements_fault, opening_fault, rows_fault, first_none, later_none, none_within}
+use Rattle.serde_json.specs.Data.{number}
+use Rattle.mum_config.proofs.{Bare.IsBare, Bare.Leads, Bare.leads, Bare.less_left, Bare.one_more, FitPolicies.sound_policy, MetChannels.AreMet, MetChannels.channel, MetChannels.depth_inserted, MetChannels.met_grown, MetChannels.met_root, MetChannels.not_temporary, MetChannels.root_under, MetChannels.root_with, Said.each_row, Said.name_good, Said.not_against, Said.rows_apart, Said.text_good}
 
 pub one_there : (there : Bool) → there ≡ true → (true && (there && true) && true) ≡ true
 one_there true is = refl

@@ -1,39 +1,6 @@
 -- The edits of a document of which nothing is said fit from the empty server.
-use Rattle.std.proofs.Common.{◌≡◌, ℕ, ◌+◌, ◌*◌, ◌≤◌, true, false, cond, List, [], ◌++◌, length, map, Option, None, Some, Result, Ok, Err, IfOk, is_none, append_assoc, refl, sym, ap, subst, ◌∙◌, arith}
-use Rattle.std.specs.Prelude.{IsTrue, codes, nat_lt}
-use Rattle.std.specs.List.{flat_map, list_any}
-use Rattle.std.specs.Option.{option_map, option_map_or}
-use Rattle.std.proofs.lemmas.Bool.Decides.{nat_tests}
-use Rattle.std.proofs.lemmas.Option.{same_Some}
-use Rattle.serde_json.specs.Data.{Data}
-use Rattle.serde_json.specs.Find.{get}
-use Rattle.mum_tree.specs.declared.channel.TheConstants.{CHANNEL_LIMIT}
-use Rattle.mum_tree.specs.State.{TreeState}
-use Rattle.mum_state.specs.declared.edit.Edit.{Edit}
-use Rattle.mum_state.specs.declared.edit.Edit.TheVariants.{SetLimits}
-use Rattle.mum_state.specs.After.{all_fit}
-use Rattle.mum_state.specs.Applied.{applied}
-use Rattle.mum_state.specs.Fits.{fits}
-use Rattle.mum_state.specs.State.{StateValue, empty_state}
-use Rattle.mum_state.proofs.Fitting.{fit_parts}
-use Rattle.mum_state.proofs.Limiting.{limits_fit}
-use Rattle.mum_state.proofs.Each.{Each}
-use Rattle.mum_config.specs.declared.config.Config.{Config}
-use Rattle.mum_document.specs.declared.fault.DocumentError.{DocumentError}
-use Rattle.mum_document.specs.declared.fault.ConfigFault.TheVariants.{Limit, NotAnObject, NotJson}
-use Rattle.mum_config.specs.Account.{account_edit}
-use Rattle.mum_config.specs.Channel.{channel_edits, is_root_entry, root_met}
-use Rattle.mum_config.specs.Document.{ReadsText, account_list_rows, accounts_in, against_document, channel_list_rows, channels_in, channels_met, config_of, document_names, document_rows, edits_of, fault_of, link_list_rows, links_in, object_fault_of, server_edit, settings_of, settings_rows, value_of}
-use Rattle.mum_config.specs.Limits.{FitAfterLimits}
-use Rattle.mum_config.specs.Link.{link_edit}
-use Rattle.mum_document.specs.Object.{rows_fault, unknown_fault}
-use Rattle.mum_config.proofs.Bare.{IsBare, Leads, empty_bare, leads, less_left, one_more}
-use Rattle.mum_document.proofs.First.{later_none}
-use Rattle.mum_config.proofs.FitAccounts.{first_accounts_fit}
-use Rattle.mum_config.proofs.FitChannels.{channels_fit, made_count, made_with_root}
-use Rattle.mum_config.proofs.FitLinks.{AreJoined, links_fit, none_joined}
-use Rattle.mum_config.proofs.MetChannels.{AreMet, root_is_met}
-use Rattle.mum_config.proofs.Said.{each_row, list_short, not_against, rows_apart, text_good}
+use Rattle.mum_config.proofs.Common.{◌≡◌, ℕ, ◌+◌, ◌*◌, ◌≤◌, true, false, cond, List, [], ◌++◌, length, map, Option, None, Some, Result, Ok, Err, IfOk, is_none, append_assoc, refl, sym, ap, subst, ◌∙◌, arith, IsTrue, codes, nat_lt, flat_map, list_any, option_map, option_map_or, nat_tests, same_Some, Data, get, CHANNEL_LIMIT, TreeState, Edit, SetLimits, all_fit, applied, fits, StateValue, empty_state, fit_parts, limits_fit, Each, Config, DocumentError, Limit, NotAnObject, NotJson, account_edit, channel_edits, is_root_entry, root_met, ReadsText, account_list_rows, accounts_in, against_document, channel_list_rows, channels_in, channels_met, config_of, document_names, document_rows, edits_of, fault_of, link_list_rows, links_in, object_fault_of, server_edit, settings_of, settings_rows, value_of, FitAfterLimits, link_edit, rows_fault, unknown_fault, later_none}
+use Rattle.mum_config.proofs.{Bare.IsBare, Bare.Leads, Bare.empty_bare, Bare.leads, Bare.less_left, Bare.one_more, FitAccounts.first_accounts_fit, FitChannels.channels_fit, FitChannels.made_count, FitChannels.made_with_root, FitLinks.AreJoined, FitLinks.links_fit, FitLinks.none_joined, MetChannels.AreMet, MetChannels.root_is_met, Said.each_row, Said.list_short, Said.not_against, Said.rows_apart, Said.text_good}
 
 -- what a table says of the length of a list
 at_most : (limit n : ℕ) → nat_lt limit n ≡ false → n ≤ limit

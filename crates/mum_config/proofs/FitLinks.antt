@@ -1,47 +1,10 @@
 -- The edits that join channels fit one after the other.
-use Rattle.std.proofs.Common.{◌≡◌, ℕ, suc, ◌+◌, ◌&&◌, ◌||◌, not, Bool, true, false, cond, eqb, List, [], ◌∷◌, ◌++◌, length, map, Option, None, Some, count_by, is_none, is_some, min, max, refl, sym, ap, subst, ◌∙◌, arith}
-use Rattle.std.specs.Prelude.{nat_le}
-use Rattle.std.specs.List.{filter, list_any}
-use Rattle.std.specs.Option.{option_map_or}
-use Rattle.std.proofs.lemmas.Bool.{and_from}
-use Rattle.std.proofs.lemmas.Bool.Decides.{nat_tests}
-use Rattle.std.proofs.lemmas.List.{length-map}
-use Rattle.std.proofs.lemmas.List.Folds.{list_any-append}
-use Rattle.std.proofs.lemmas.List.Sums.{length-filter}
-use Rattle.serde_json.specs.Data.{Data}
-use Rattle.mum_base.specs.declared.number.ChannelId.{ChannelId}
-use Rattle.mum_tree.specs.declared.channel.Row.{Row}
-use Rattle.mum_tree.specs.declared.fault.TreeFault.TheVariants.{LinkCount, NoChannel}
-use Rattle.mum_tree.specs.Change.{Change, fault_of_edit, with_change, with_given}
-use Rattle.mum_tree.specs.Proper.{IsProper as IsProperTree}
-use Rattle.mum_tree.specs.Refusals.{fault_of_link}
-use Rattle.mum_tree.specs.Rows.{is_there, number}
-use Rattle.mum_tree.specs.State.{Pair, TreeState, are_linked, changed, is_above, is_pair, pairs_with, partners, starts_at, with_link, with_pair}
-use Rattle.mum_tree.proofs.EditBack.{edits_both_ways}
-use Rattle.mum_tree.proofs.Joined.{count_with}
-use Rattle.mum_tree.proofs.LinkBack.{link_both_ways}
-use Rattle.mum_state.specs.declared.edit.Edit.{Edit}
-use Rattle.mum_state.specs.After.{all_fit}
-use Rattle.mum_state.specs.Applied.{applied}
-use Rattle.mum_state.specs.Fits.{fits}
-use Rattle.mum_state.specs.Parts.{channel_parts}
-use Rattle.mum_state.specs.State.{StateValue}
-use Rattle.mum_state.proofs.Editing.{named_in_tree}
-use Rattle.mum_document.specs.Value.{greatest, number_fault, number_of}
-use Rattle.mum_config.specs.Channel.{depth_of}
-use Rattle.mum_document.specs.Fault.{against, place_text, within}
-use Rattle.mum_config.specs.Link.{Ends, are_same, end_fault, ends_fault, ends_of, first_end, is_crowded, is_end, is_new, join_edit, link_count, link_edit, link_fault, pair_of, second_end, with_ends, with_link_met}
-use Rattle.mum_document.specs.Object.{elements_fault}
-use Rattle.mum_document.specs.declared.fault.ConfigFault.TheVariants.{WrongKind}
-use Rattle.mum_config.proofs.Bare.{IsBare, Leads, leads, less_left, one_more}
-use Rattle.mum_config.proofs.Counts.{count_by-append, count_one, end_is}
-use Rattle.mum_document.proofs.First.{first_none, later_none, none_within}
-use Rattle.mum_config.proofs.MetChannels.{channel}
-use Rattle.mum_config.proofs.Said.{not_against}
+use Rattle.mum_config.proofs.Common.{◌≡◌, ℕ, suc, ◌+◌, ◌&&◌, ◌||◌, not, Bool, true, false, cond, eqb, List, [], ◌∷◌, ◌++◌, length, map, Option, None, Some, count_by, is_none, is_some, min, max, refl, sym, ap, subst, ◌∙◌, arith, nat_le, filter, list_any, option_map_or, and_from, nat_tests, length-map, list_any-append, length-filter, Data, ChannelId, Row, LinkCount, NoChannel, Change, fault_of_edit, with_change, with_given, IsProperTree, fault_of_link, is_there, number, Pair, TreeState, are_linked, changed, is_above, is_pair, pairs_with, partners, starts_at, with_link, with_pair, edits_both_ways, count_with, link_both_ways, Edit, all_fit, applied, fits, channel_parts, StateValue, named_in_tree, greatest, number_fault, number_of, depth_of, against, place_text, within, Ends, are_same, end_fault, ends_fault, ends_of, first_end, is_crowded, is_end, is_new, join_edit, link_count, link_edit, link_fault, pair_of, second_end, with_ends, with_link_met, elements_fault, WrongKind, first_none, later_none, none_within}
+use Rattle.mum_config.proofs.{Bare.IsBare, Bare.Leads, Bare.leads, Bare.less_left, Bare.one_more, Counts.count_by-append, Counts.count_one, Counts.end_is, MetChannels.channel, Said.not_against}
 
 -- ---- links
 
--- the links that were met are those of the tree, where each stands in both directions
+-- the links that were met are those of the tree, where each is in both directions
 pub record AreJoined (met : List Ends) (links : List Pair) : Type 0 where
   pub linked : (a b : ℕ) → eqb a b ≡ false → list_any (is_pair (channel a) (channel b)) links ≡ list_any (are_same (ends_of a b)) met
   pub counted : (a : ℕ) → count_by (starts_at (channel a)) links ≡ link_count met a

@@ -1,27 +1,5 @@
 -- A policy of which nothing is said is sound.
-use Rattle.std.proofs.Common.{◌≡◌, ℕ, Bool, true, false, List, [], ◌∷◌, length, map, Option, None, Some, refl, ap, ◌∙◌}
-use Rattle.std.specs.Prelude.{bit_and, codes, nat_lt, unwrap_or}
-use Rattle.std.specs.List.{list_all, list_any}
-use Rattle.std.specs.Option.{option_map, option_map_or}
-use Rattle.std.proofs.lemmas.Bool.{and_from, eq-eqb, not_from_false, or_from}
-use Rattle.std.proofs.lemmas.List.{length-map}
-use Rattle.std.proofs.lemmas.Nat.{and_assoc, and_comm}
-use Rattle.serde_json.specs.Data.{Data}
-use Rattle.serde_json.specs.Find.{get}
-use Rattle.mum_base.specs.declared.perm.TheConstants.Perm.{ALL}
-use Rattle.mum_policy.specs.declared.policy.AclEntry.{AclEntry}
-use Rattle.mum_policy.specs.declared.policy.ChannelPolicy.{ChannelPolicy}
-use Rattle.mum_policy.specs.declared.policy.Group.{Group as GroupRow}
-use Rattle.mum_policy.specs.declared.policy.Whom.TheVariants.{Account, Group}
-use Rattle.mum_policy.specs.Limits.{is_large_group, is_long_whom}
-use Rattle.mum_policy.specs.Walk.{holds}
-use Rattle.mum_state.specs.Proper.{is_name, is_sound_entry, is_sound_policy}
-use Rattle.mum_state.proofs.Each.{Each}
-use Rattle.mum_document.specs.Given.{given_policy, policy_rows}
-use Rattle.mum_document.specs.Object.{elements_at, number_at, opening_fault, rows_fault, text_at}
-use Rattle.mum_document.specs.Policy.{account_of, accounts_at, entry_fault, entry_names, entry_of, entry_rows, group_fault, group_names, group_of, group_rows, with_group_met}
-use Rattle.mum_config.specs.Channel.{policy_of}
-use Rattle.mum_document.specs.Value.{elements_of}
+use Rattle.mum_config.proofs.Common.{◌≡◌, ℕ, Bool, true, false, List, [], ◌∷◌, length, map, Option, None, Some, refl, ap, ◌∙◌, bit_and, codes, nat_lt, unwrap_or, list_all, list_any, option_map, option_map_or, and_from, eq-eqb, not_from_false, or_from, length-map, and_assoc, and_comm, Data, get, ALL, AclEntry, ChannelPolicy, GroupRow, Account, Group, is_large_group, is_long_whom, holds, is_name, is_sound_entry, is_sound_policy, Each, given_policy, policy_rows, elements_at, number_at, opening_fault, rows_fault, text_at, account_of, accounts_at, entry_fault, entry_names, entry_of, entry_rows, group_fault, group_names, group_of, group_rows, with_group_met, policy_of, elements_of}
 use Rattle.mum_config.proofs.Said.{each_alone, each_element, each_row, list_short, name_good, object_rows, text_short}
 
 -- ---- groups

@@ -1,25 +1,5 @@
 -- The settings and the accounts of a document fit without its channels.
-use Rattle.std.proofs.Common.{◌≡◌, ℕ, Bool, true, false, cond, List, [], ◌∷◌, ◌++◌, map, Option, None, Some, Result, Ok, Err, IfOk, append_assoc, append-nil, refl, sym, ap, subst, ◌∙◌}
-use Rattle.std.specs.List.{flat_map}
-use Rattle.std.specs.Option.{option_map}
-use Rattle.std.proofs.lemmas.Bool.{and_from, and_parts}
-use Rattle.std.proofs.lemmas.List.Elements.{filter-append}
-use Rattle.std.proofs.lemmas.Option.{same_Some}
-use Rattle.serde_json.specs.Data.{Data}
-use Rattle.mum_state.specs.declared.edit.Edit.{Edit}
-use Rattle.mum_state.specs.declared.edit.Edit.TheVariants.{SetLimits}
-use Rattle.mum_state.specs.After.{all_fit}
-use Rattle.mum_state.specs.Applied.{applied}
-use Rattle.mum_state.specs.Fits.{fits}
-use Rattle.mum_state.specs.State.{StateValue, empty_state}
-use Rattle.mum_document.specs.declared.fault.DocumentError.{DocumentError}
-use Rattle.mum_document.specs.Given.{given_info, given_policy}
-use Rattle.mum_config.specs.declared.config.Config.{Config}
-use Rattle.mum_config.specs.Account.{account_edit}
-use Rattle.mum_config.specs.Channel.{channel_edits, channel_number, gives_info, gives_policy, is_root_entry, made_edit, policy_edits, root_edits}
-use Rattle.mum_config.specs.Document.{ReadsText, accounts_in, channels_in, config_of, edits_of, links_in, server_edit, settings_of, value_of}
-use Rattle.mum_config.specs.Limits.{FitAfterLimits, is_beside_channels, settings_and_accounts}
-use Rattle.mum_config.specs.Link.{link_edit}
+use Rattle.mum_config.proofs.Common.{◌≡◌, ℕ, Bool, true, false, cond, List, [], ◌∷◌, ◌++◌, map, Option, None, Some, Result, Ok, Err, IfOk, append_assoc, append-nil, refl, sym, ap, subst, ◌∙◌, flat_map, option_map, and_from, and_parts, filter-append, same_Some, Data, Edit, SetLimits, all_fit, applied, fits, StateValue, empty_state, DocumentError, given_info, given_policy, Config, account_edit, channel_edits, channel_number, gives_info, gives_policy, is_root_entry, made_edit, policy_edits, root_edits, ReadsText, accounts_in, channels_in, config_of, edits_of, links_in, server_edit, settings_of, value_of, FitAfterLimits, is_beside_channels, settings_and_accounts, link_edit}
 use Rattle.mum_config.proofs.FitDocument.{same_edits, text_fits_limits}
 
 -- ---- what is left of a document's edits

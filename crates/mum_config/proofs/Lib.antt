@@ -1,3 +1,5 @@
+mod Common
+pub mod Public
 pub mod Pairs
 pub mod Seats
 pub mod Counts

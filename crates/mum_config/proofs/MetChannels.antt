@@ -1,28 +1,5 @@
 -- The channels that were met are those of the tree.
-use Rattle.std.proofs.Common.{◌≡◌, ℕ, ◌+◌, ◌≤◌, ◌<◌, ◌==◌, ◌&&◌, ◌||◌, not, Bool, true, false, cond, eqb, List, [], ◌∷◌, ◌++◌, length, reverse, Option, None, Some, MatchOption, is_some, codes, refl, sym, ap, subst, ◌∙◌, arith}
-use Rattle.std.specs.Prelude.{nat_eq}
-use Rattle.std.specs.Option.{option_map_or}
-use Rattle.std.specs.Str.{bytes_eq}
-use Rattle.std.proofs.lemmas.Bool.{eq-eqb, eqb-true, ne_eqb, not_from_false}
-use Rattle.std.proofs.lemmas.Bool.Decides.{nat_tests}
-use Rattle.std.proofs.lemmas.List.{length-reverse}
-use Rattle.std.proofs.lemmas.List.Folds.{list_any-append}
-use Rattle.std.proofs.lemmas.Option.{same_Some}
-use Rattle.indexmap.specs.IndexMap.{insert_entry}
-use Rattle.mum_base.specs.declared.number.ChannelId.{ChannelId}
-use Rattle.mum_base.specs.declared.number.TheConstants.ChannelId.{ROOT}
-use Rattle.mum_tree.specs.declared.channel.ChannelInfo.{ChannelInfo}
-use Rattle.mum_tree.specs.declared.channel.Row.{Row}
-use Rattle.mum_tree.specs.declared.channel.TheConstants.{CHANNEL_LIMIT}
-use Rattle.mum_tree.specs.Proper.{IsProper as IsProperTree}
-use Rattle.mum_tree.specs.Rows.{has_name_beside, is_root, is_taken, is_temporary, is_there, number, path, row_of, upward}
-use Rattle.mum_tree.specs.State.{TreeState, root_alone, with_row}
-use Rattle.mum_tree.proofs.Find.{row_of_none}
-use Rattle.mum_tree.proofs.Grown.{old_parents, row_of_last}
-use Rattle.mum_tree.proofs.Upward.{upward_kept, upward_short, upward_under}
-use Rattle.mum_state.proofs.Each.{Each, each_append}
-use Rattle.mum_state.proofs.Ways.{path_alike, there_alike}
-use Rattle.mum_config.specs.Channel.{ChannelsMet, depth_of, has_seat, root_met}
+use Rattle.mum_config.proofs.Common.{◌≡◌, ℕ, ◌+◌, ◌≤◌, ◌<◌, ◌==◌, ◌&&◌, ◌||◌, not, Bool, true, false, cond, eqb, List, [], ◌∷◌, ◌++◌, length, reverse, Option, None, Some, MatchOption, is_some, codes, refl, sym, ap, subst, ◌∙◌, arith, nat_eq, option_map_or, bytes_eq, eq-eqb, eqb-true, ne_eqb, not_from_false, nat_tests, length-reverse, list_any-append, same_Some, insert_entry, ChannelId, ROOT, ChannelInfo, Row, CHANNEL_LIMIT, IsProperTree, has_name_beside, is_root, is_taken, is_temporary, is_there, number, path, row_of, upward, TreeState, root_alone, with_row, row_of_none, old_parents, row_of_last, upward_kept, upward_short, upward_under, Each, each_append, path_alike, there_alike, ChannelsMet, depth_of, has_seat, root_met}
 use Rattle.mum_config.proofs.FitAccounts.{bytes_swap, eq_swap}
 
 abbrev pub channel : ℕ → ChannelId

@@ -1,11 +1,5 @@
 -- The two values of a pair.
-use Rattle.std.proofs.Common.{◌≡◌, List, [], ◌∷◌, length, map, None, Some, refl}
-use Rattle.serde_json.specs.Data.{Data}
-use Rattle.serde_json.specs.Find.{as_array}
-use Rattle.serde_json.specs.View.{items_view, view}
-use Rattle.serde_json.specs.declared.value.Value.{Value}
-use Rattle.mum_document.proofs.Values.{array_from, elements_in-items_view}
-use Rattle.mum_config.specs.Link.{pair_in, pair_of}
+use Rattle.mum_config.proofs.Common.{◌≡◌, List, [], ◌∷◌, length, map, None, Some, refl, Data, as_array, items_view, view, Value, array_from, elements_in-items_view, pair_in, pair_of}
 
 no_pair_in : (values : List Value) → (length values ≡ 2 → ⊥) → None ≡ pair_in (map view values)
 no_pair_in [] other = refl

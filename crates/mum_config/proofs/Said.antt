@@ -1,18 +1,6 @@
 -- What holds of a value of which nothing is said.
-use Rattle.std.proofs.Common.{◌≡◌, ℕ, ◌+◌, Bool, true, false, cond, List, [], ◌∷◌, ◌++◌, length, Option, None, Some, is_none, is_some, refl, sym, ap, ◌∙◌, arith}
-use Rattle.std.specs.Prelude.{nat_le, nat_lt, unwrap_or}
-use Rattle.std.specs.Option.{option_map}
-use Rattle.std.proofs.lemmas.Bool.Decides.{nat_tests}
-use Rattle.serde_json.specs.Data.{Data, array, string}
-use Rattle.mum_base.specs.Name.{name_fault as fault_of_name}
-use Rattle.mum_base.specs.declared.name.NameFault.TheVariants.{TooLong}
-use Rattle.mum_document.specs.declared.fault.ConfigFault.{ConfigFault}
-use Rattle.mum_document.specs.Fault.{Fault, against, or_else}
-use Rattle.mum_document.specs.Object.{Row, each_fault, elements_fault, rows_fault}
-use Rattle.mum_document.specs.Value.{elements_of, list_fault, name_fault, needed, text_fault, text_of, wanted}
-use Rattle.mum_document.proofs.First.{first_none, later_none, none_within, rows_fault-append}
-use Rattle.mum_state.proofs.Each.{Each}
-use Rattle.mum_state.specs.Proper.{is_name, is_short, is_text}
+use Rattle.mum_config.proofs.Common.{◌≡◌, ℕ, ◌+◌, Bool, true, false, cond, List, [], ◌∷◌, ◌++◌, length, Option, None, Some, is_none, is_some, refl, sym, ap, ◌∙◌, arith, nat_le, nat_lt, unwrap_or, option_map, nat_tests, Data, array, string, fault_of_name, TooLong, ConfigFault, Fault, against, or_else, each_fault, elements_fault, rows_fault, elements_of, list_fault, name_fault, needed, text_fault, text_of, wanted, first_none, later_none, none_within, rows_fault-append, Each, is_name, is_short, is_text}
+use Rattle.mum_document.specs.Object.{Row}
 
 pub not_against : (cause : ConfigFault) (holds : Bool) → against cause holds ≡ None → holds ≡ false
 not_against cause true none = absurd (cc)

@@ -1,8 +1,5 @@
 -- Seats of channels: what is new goes last.
-use Rattle.std.proofs.Common.{◌≡◌, ℕ, List, [], ◌∷◌, ◌++◌, refl}
-use Rattle.std.specs.Borrow.{Bor}
-use Rattle.std.proofs.lemmas.List.{map-append}
-use Rattle.mum_config.specs.Channel.{seats_of}
+use Rattle.mum_config.proofs.Common.{◌≡◌, ℕ, List, [], ◌∷◌, ◌++◌, refl, Bor, map-append, seats_of}
 
 pub inserted_seats : (keys new : List (ℕ × Bor (List ℕ))) (k : ℕ × Bor (List ℕ)) (parent : ℕ) (name : List ℕ) → new ≡ keys ++ k ∷ [] → k.0 ≡ parent → k.1.now ≡ name
     → seats_of new ≡ seats_of keys ++ (parent, name) ∷ []

@@ -1,11 +1,8 @@
 -- Accounts.
 use Rattle.std.specs.Prelude.{ℕ, ◌==◌, List, [], ◌∷◌, ◌++◌, Option, codes, unwrap_or}
-use Rattle.std.specs.List.{list_any}
-use Rattle.std.specs.Option.{option_map}
-use Rattle.serde_json.specs.Data.{Data}
-use Rattle.serde_json.specs.Find.{get}
-use Rattle.mum_state.specs.declared.edit.Edit.{Edit}
-use Rattle.mum_state.specs.declared.edit.Edit.TheVariants.{AddAccount}
+use Rattle.std.specs.{List.list_any, Option.option_map}
+use Rattle.serde_json.specs.{Data.Data, Find.get}
+use Rattle.mum_state.specs.declared.edit.Edit.{Edit, TheVariants.AddAccount}
 use Rattle.mum_document.specs.declared.fault.ConfigFault.TheVariants.{Twice}
 use Rattle.mum_document.specs.Fault.{Fault, against}
 use Rattle.mum_document.specs.Object.{Row, new_name_rows, number_at, object_fault, text_at}
@@ -46,7 +43,7 @@ with_account_met met value = record {
   names = met.names ++ account_name value ∷ [];
 }
 
--- what an account's `password_sha256` spells
+-- what an account's `password_sha256` encodes
 abbrev pub digest_at : List ℕ → Data → Option (List ℕ)
 digest_at name value = option_map digest_of (get name value)
 

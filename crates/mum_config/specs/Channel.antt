@@ -1,30 +1,22 @@
 -- Channels.
 use Rattle.std.specs.Prelude.{◌≡◌, ℕ, pos, ◌+◌, ◌==◌, ◌&&◌, ◌||◌, nat_eq, nat_le, nat_lt, not, Bool, true, false, List, [], ◌∷◌, ◌++◌, length, map, Option, Some, None, Result, Ok, Err, codes, is_none, is_some, unwrap_or, if◌then◌else◌}
+use Rattle.std.specs.{Borrow.Bor, List.list_any, Map.lookup, Option.option_and_then, Option.option_map_or, Str.bytes_eq}
 use Rattle.indexmap.specs.IndexMap.{IndexMap, insert_entry}
-use Rattle.std.specs.Borrow.{Bor}
-use Rattle.std.specs.List.{list_any}
-use Rattle.std.specs.Map.{lookup}
-use Rattle.std.specs.Option.{option_and_then, option_map_or}
-use Rattle.std.specs.Str.{bytes_eq}
-use Rattle.serde_json.specs.Data.{Data}
-use Rattle.serde_json.specs.Find.{as_number, as_u64, get}
-use Rattle.mum_base.specs.declared.number.ChannelId.{ChannelId}
-use Rattle.mum_base.specs.declared.number.TheConstants.ChannelId.{ROOT}
+use Rattle.serde_json.specs.{Data.Data, Find.as_number, Find.as_u64, Find.get}
+use Rattle.mum_base.specs.declared.number.{ChannelId.ChannelId, TheConstants.ChannelId.ROOT}
 use Rattle.mum_policy.specs.declared.policy.ChannelPolicy.{ChannelPolicy}
-use Rattle.mum_state.specs.declared.edit.Edit.{Edit}
-use Rattle.mum_state.specs.declared.edit.Edit.TheVariants.{EditChannel, MakeChannel, SetAcl}
 use Rattle.mum_tree.specs.declared.channel.ChannelInfo.{ChannelInfo}
 use Rattle.mum_tree.specs.declared.channel.TheConstants.{CHANNEL_LIMIT, PATH_LIMIT}
-use Rattle.mum_config.specs.declared.channel.Met.{Met}
-use Rattle.mum_document.specs.declared.fault.DocumentError.{DocumentError}
-use Rattle.mum_document.specs.declared.given.GivenInfo.{GivenInfo}
+use Rattle.mum_state.specs.declared.edit.Edit.{Edit}
+use Rattle.mum_state.specs.declared.edit.Edit.TheVariants.{EditChannel, MakeChannel, SetAcl}
+use Rattle.mum_document.specs.declared.{fault.DocumentError.DocumentError, given.GivenInfo.GivenInfo}
 use Rattle.mum_document.specs.declared.given.GivenPolicy.{GivenPolicy}
 use Rattle.mum_document.specs.declared.fault.ConfigFault.TheVariants.{Limit, NoSuch, OutOfRange, Twice}
 use Rattle.mum_document.specs.Value.{greatest, name_fault, needed, number_fault}
-use Rattle.mum_document.specs.Fault.{Fault, against}
+use Rattle.mum_document.specs.{Fault.Fault, Fault.against, Reading.Names}
 use Rattle.mum_document.specs.Object.{Row, number_at, object_fault, text_at}
 use Rattle.mum_document.specs.Given.{given_info, given_policy, info_rows, policy_rows}
-use Rattle.mum_document.specs.Reading.{Names}
+use Rattle.mum_config.specs.declared.channel.Met.{Met}
 
 -- the channels so far
 pub record ChannelsMet : Type 0 where
@@ -113,7 +105,8 @@ root_fault met value =
 unfoldable pub made_fault : ChannelsMet → Data → Option Fault
 made_fault met value =
     object_fault (codes "id" ∷ codes "parent" ∷ codes "name" ∷ shared_names)
-    (number_rows met.last value ++ parent_rows met.depths value ++ name_rows met.seats value ++ info_rows value ++ policy_rows value) value
+    (number_rows met.last value ++ parent_rows met.depths value ++ name_rows met.seats value ++ info_rows value
+    ++ policy_rows value) value
 
 unfoldable pub channel_fault : ChannelsMet → Data → Option Fault
 channel_fault met value = if is_root_entry value then root_fault met value else made_fault met value
@@ -148,11 +141,13 @@ info_of given = record {
 -- the edit of the root that sets what is given, if something is
 abbrev pub root_edits : GivenInfo → List Edit
 root_edits given =
-    if gives_info given then EditChannel ROOT None None None given.description given.position given.max_users [] [] ∷ [] else []
+    if gives_info given then EditChannel ROOT None None None given.description given.position given.max_users [] []
+    ∷ [] else []
 
 abbrev pub made_edit : Data → Edit
 made_edit value =
-    MakeChannel (record { 0 = channel_number value }) (record { 0 = parent_number value }) (channel_name value) false (info_of (given_info value)) None
+    MakeChannel (record { 0 = channel_number value }) (record { 0 = parent_number value }) (channel_name value) false
+    (info_of (given_info value)) None
 
 abbrev pub gives_policy : GivenPolicy → Bool
 gives_policy given = is_some given.inherit_acls || is_some given.groups || is_some given.acls

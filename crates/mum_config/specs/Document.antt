@@ -1,33 +1,22 @@
 -- The whole document: what is said against it first, and what it is read as.
 use Rattle.std.specs.Prelude.{◌≡◌, ℕ, nat_lt, Bool, List, [], ◌∷◌, ◌++◌, fold, length, map, Option, Some, None, Result, Ok, Err, codes, is_none, unwrap_or, if◌then◌else◌}
-use Rattle.std.specs.List.{flat_map}
-use Rattle.std.specs.Option.{option_map, option_map_or}
-use Rattle.std.specs.Str.{is_utf8}
-use Rattle.serde_json.specs.Data.{Data}
-use Rattle.serde_json.specs.Find.{as_object, get}
-use Rattle.serde_json.specs.Read.{read}
-use Rattle.mum_base.specs.declared.name.TheConstants.{TEXT_LIMIT}
-use Rattle.mum_state.specs.declared.account.TheConstants.{ACCOUNT_LIMIT}
-use Rattle.mum_state.specs.declared.edit.Edit.{Edit}
-use Rattle.mum_state.specs.declared.edit.Edit.TheVariants.{SetServer}
-use Rattle.mum_state.specs.declared.server.TheConstants.{DEFAULT_BANDWIDTH}
-use Rattle.serde_json.specs.View.{view}
+use Rattle.std.specs.{List.flat_map, Option.option_map, Option.option_map_or, Str.is_utf8}
+use Rattle.serde_json.specs.{Data.Data, Find.as_object, Find.get, Read.read, View.view}
 use Rattle.serde_json.specs.declared.value.Value.{Value}
-use Rattle.mum_config.specs.declared.config.Config.{Config}
-use Rattle.mum_config.specs.declared.config.Settings.{Settings}
-use Rattle.mum_config.specs.declared.config.TheConstants.{DEFAULT_WORKERS, DOCUMENT_LIMIT, WORKERS}
-use Rattle.mum_document.specs.declared.fault.DocumentError.{DocumentError}
-use Rattle.mum_document.specs.declared.fault.ConfigFault.{ConfigFault}
+use Rattle.mum_base.specs.declared.name.TheConstants.{TEXT_LIMIT}
+use Rattle.mum_state.specs.declared.{account.TheConstants.ACCOUNT_LIMIT, edit.Edit.Edit}
+use Rattle.mum_state.specs.declared.{edit.Edit.TheVariants.SetServer, server.TheConstants.DEFAULT_BANDWIDTH}
+use Rattle.mum_document.specs.declared.fault.{DocumentError.DocumentError, ConfigFault.ConfigFault}
 use Rattle.mum_document.specs.declared.fault.ConfigFault.TheVariants.{Limit, NotAnObject, NotJson}
-use Rattle.mum_config.specs.Account.{account_edit, account_fault, no_accounts, with_account_met}
 use Rattle.mum_document.specs.Value.{digest_fault, digest_of, greatest, list_fault, number_fault, number_of, text_fault, text_of, wanted}
-use Rattle.mum_config.specs.Channel.{ChannelsMet, are_too_many, channel_edits, channel_fault, root_met, with_channel_met}
-use Rattle.mum_document.specs.Fault.{Fault, against, or_else}
-use Rattle.mum_config.specs.Link.{link_edit, link_fault, with_link_met}
+use Rattle.mum_document.specs.{Fault.Fault, Fault.against, Fault.or_else, Reading.Names}
 use Rattle.mum_document.specs.Object.{Row, elements_at, elements_fault, rows_fault, unknown_fault}
-use Rattle.mum_document.specs.Reading.{Names}
-use Rattle.mum_config.specs.Refusal.{NamesByCode}
+use Rattle.mum_config.specs.declared.config.{Config.Config, Settings.Settings}
+use Rattle.mum_config.specs.declared.config.TheConstants.{DEFAULT_WORKERS, DOCUMENT_LIMIT, WORKERS_LIMIT}
 use Rattle.mum_config.specs.declared.refusal.BadConfig.{BadConfig}
+use Rattle.mum_config.specs.Account.{account_edit, account_fault, no_accounts, with_account_met}
+use Rattle.mum_config.specs.Channel.{ChannelsMet, are_too_many, channel_edits, channel_fault, root_met, with_channel_met}
+use Rattle.mum_config.specs.{Link.link_edit, Link.link_fault, Link.with_link_met, Refusal.NamesByCode}
 
 -- the value that a text is, if it is one
 abbrev pub value_of : List ℕ → Option Data
@@ -55,7 +44,7 @@ abbrev pub settings_rows : Data → List Row
 settings_rows document =
     (codes "welcome", wanted (text_fault TEXT_LIMIT) (get (codes "welcome") document))
     ∷ (codes "bandwidth", wanted (number_fault 1 greatest) (get (codes "bandwidth") document))
-    ∷ (codes "workers", wanted (number_fault 1 WORKERS) (get (codes "workers") document))
+    ∷ (codes "workers", wanted (number_fault 1 WORKERS_LIMIT) (get (codes "workers") document))
     ∷ (codes "server_password_sha256", wanted digest_fault (get (codes "server_password_sha256") document))
     ∷ []
 
@@ -84,7 +73,7 @@ document_rows document =
     settings_rows document ++ account_list_rows document ++ channel_list_rows document
     ++ link_list_rows (channels_met document).depths document
 
--- the cause stands against the document as a whole
+-- the cause is of the document as a whole
 abbrev pub against_document : ConfigFault → Bool → Option Fault
 against_document cause holds = if holds then Some (record { cause = cause; key = codes "document" }) else None
 
@@ -113,7 +102,8 @@ settings_of document = record {
 
 -- what is not given is as in an empty server
 abbrev pub server_edit : Settings → Edit
-server_edit settings = SetServer (unwrap_or settings.welcome []) (unwrap_or settings.bandwidth DEFAULT_BANDWIDTH) settings.password
+server_edit settings =
+    SetServer (unwrap_or settings.welcome []) (unwrap_or settings.bandwidth DEFAULT_BANDWIDTH) settings.password
 
 unfoldable pub edits_of : Data → List Edit
 edits_of document =
@@ -136,7 +126,7 @@ abbrev pub ReadsText : List ℕ → Result Config DocumentError → Type 0
 ReadsText text (Ok config) = (fault_of text ≡ None) × (config_in text ≡ Some config)
 ReadsText text (Err error) = Names error (fault_of text)
 
--- the same, where a fault is told by its number
+-- the same, where a fault is reported by its number
 abbrev pub ReadsConfig : List ℕ → Result Config BadConfig → Type 0
 ReadsConfig text (Ok config) = (fault_of text ≡ None) × (config_in text ≡ Some config)
 ReadsConfig text (Err error) = NamesByCode error (fault_of text)

@@ -3,10 +3,7 @@ use Rattle.std.specs.Prelude.{ℕ, Bool, true, false, List, IsTrue}
 use Rattle.std.specs.List.{filter}
 use Rattle.mum_state.specs.declared.edit.Edit.{Edit}
 use Rattle.mum_state.specs.declared.edit.Edit.TheVariants.{AddAccount, SetLimits, SetServer}
-use Rattle.mum_state.specs.After.{all_fit}
-use Rattle.mum_state.specs.Applied.{applied}
-use Rattle.mum_state.specs.Fits.{fits}
-use Rattle.mum_state.specs.State.{empty_state}
+use Rattle.mum_state.specs.{After.all_fit, Applied.applied, Fits.fits, State.empty_state}
 
 -- whatever limits are set in the empty server, the edits fit after that, one after the other
 abbrev pub FitAfterLimits : List Edit → Type 0

@@ -1,16 +1,13 @@
 -- Links.
 use Rattle.std.specs.Prelude.{◌≡◌, ℕ, ◌==◌, ◌&&◌, ◌||◌, nat_le, not, Bool, true, List, [], ◌∷◌, ◌++◌, min, max, Option, Some, None, is_none, count_by, unwrap_or, if◌then◌else◌}
-use Rattle.std.specs.List.{list_any}
-use Rattle.std.specs.Map.{lookup}
-use Rattle.std.specs.Option.{option_map_or}
+use Rattle.std.specs.{List.list_any, Map.lookup, Option.option_map_or}
 use Rattle.serde_json.specs.Data.{Data}
-use Rattle.mum_state.specs.declared.edit.Edit.{Edit}
-use Rattle.mum_state.specs.declared.edit.Edit.TheVariants.{EditChannel}
-use Rattle.mum_tree.specs.declared.links.TheConstants.{LINK_LIMIT}
+use Rattle.mum_tree.specs.declared.links.TheConstants.{CHANNEL_LINK_LIMIT}
+use Rattle.mum_state.specs.declared.edit.Edit.{Edit, TheVariants.EditChannel}
 use Rattle.mum_document.specs.declared.fault.ConfigFault.TheVariants.{Limit, NoSuch, WrongKind}
 use Rattle.mum_document.specs.Value.{elements_of, greatest, number_fault, number_of}
-use Rattle.mum_config.specs.Channel.{depth_of}
 use Rattle.mum_document.specs.Fault.{Fault, against, or_else, place_text, within}
+use Rattle.mum_config.specs.Channel.{depth_of}
 
 -- two different channels, the lesser first
 abbrev pub Ends : Type 0
@@ -35,7 +32,7 @@ link_count met channel = count_by (is_end channel) met
 
 -- one of the two has all the links that a channel may have
 abbrev pub is_crowded : List Ends → ℕ → ℕ → Bool
-is_crowded met a b = nat_le LINK_LIMIT (link_count met a) || nat_le LINK_LIMIT (link_count met b)
+is_crowded met a b = nat_le CHANNEL_LINK_LIMIT (link_count met a) || nat_le CHANNEL_LINK_LIMIT (link_count met b)
 
 -- the link is one too many of one of the two
 abbrev pub crowding_fault : List Ends → ℕ → ℕ → Option Fault
@@ -61,7 +58,8 @@ second_end value = option_map_or (λ pair. number_of pair.1) (pair_of value) 0
 
 -- a channel of a pair, among channels of these depths
 abbrev pub end_fault : List (ℕ × ℕ) → Data → Option Fault
-end_fault depths value = or_else (number_fault 0 greatest value) (against NoSuch (is_none (depth_of depths (number_of value))))
+end_fault depths value =
+    or_else (number_fault 0 greatest value) (against NoSuch (is_none (depth_of depths (number_of value))))
 
 -- the two one after the other, and then the limit
 abbrev pub ends_fault : List (ℕ × ℕ) → List Ends → Data × Data → Option Fault

@@ -1,4 +1,4 @@
--- What is told of a document in which there is a fault.
+-- What is reported of a document in which there is a fault.
 use Rattle.std.specs.Prelude.{◌≡◌, ⊤, ℕ, List, Option, Some}
 use Rattle.std.specs.Option.{option_map}
 use Rattle.mum_document.specs.Fault.{Fault, fault_code}

@@ -16,7 +16,7 @@ use std::alloc::Global;
 
 const KEYS: [&str; 3] = ["id", "name", "password_sha256"];
 
-/// Adds the edit that adds an account.
+// Adds the edit that adds an account.
 fn push_account(
     alloc: Global,
     number: u32,
@@ -36,7 +36,7 @@ fn push_account(
     Ok(())
 }
 
-/// Adds the edit that adds an account, whose number and name none of those before it has.
+// Adds the edit that adds an account, whose number and name none of those before it has.
 fn read_account<'a>(
     alloc: Global,
     value: &'a Value,
@@ -70,7 +70,7 @@ fn read_account<'a>(
     Ok(())
 }
 
-/// Adds the edits that add accounts, whose numbers and names none of those before them has.
+// Adds the edits that add accounts, whose numbers and names none of those before them has.
 fn add_accounts<'a>(
     alloc: Global,
     values: &'a [Value],
@@ -95,7 +95,7 @@ fn add_accounts<'a>(
     Ok(())
 }
 
-/// Adds the edits that add accounts, at the end of others.
+// Adds the edits that add accounts, at the end of others.
 pub(crate) fn read_accounts(
     alloc: Global,
     values: &[Value],

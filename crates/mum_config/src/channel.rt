@@ -40,7 +40,7 @@ const KEYS: [&str; 9] = [
     "acls",
 ];
 
-/// The channels of the entries so far, among them the root.
+// The channels of the entries so far, among them the root.
 #[derive(Drop)]
 pub(crate) struct Met<'a> {
     /// The number of the entry before.
@@ -52,7 +52,7 @@ pub(crate) struct Met<'a> {
 }
 
 impl<'a> Met<'a> {
-    /// The root is there before all entries.
+    // The root is there before all entries.
     fn new(alloc: Global) -> Result<Met<'a>, OutOfMemory>
         ensures { IfOk result (λ met. met_of met ≡ root_met) }
     {
@@ -72,7 +72,7 @@ impl<'a> Met<'a> {
     }
 }
 
-/// Whether the entry is the root's.
+// Whether the entry is the root's.
 fn is_root_entry(value: &Value) -> bool
     ensures { result ≡ is_root_entry (view value.now) }
 {
@@ -82,7 +82,7 @@ fn is_root_entry(value: &Value) -> bool
     }
 }
 
-/// Whether the number is above that of the entry before.
+// Whether the number is above that of the entry before.
 fn rises(last: Option<u32>, number: u32) -> bool
     ensures { result ≡ rises last number }
 {
@@ -92,7 +92,7 @@ fn rises(last: Option<u32>, number: u32) -> bool
     }
 }
 
-/// The number of an entry, above that of the entry before.
+// The number of an entry, above that of the entry before.
 fn number_in(object: &Object<'_>, last: Option<u32>) -> Result<u32, DocumentError>
     ensures { let value = view object.now.value.now in
         Reads (rows_fault object.now.dot.now (number_rows last value)) (channel_number value) result }
@@ -102,21 +102,21 @@ fn number_in(object: &Object<'_>, last: Option<u32>) -> Result<u32, DocumentErro
     Ok(number)
 }
 
-/// A channel's parent, and how many channels lead to it from the root, with both.
+// A channel's parent, and how many channels lead to it from the root, with both.
 #[derive(Clone, Copy)]
 struct Parent {
     number: u32,
     depth: usize,
 }
 
-/// How many channels lead from the root to the one of a number, if it is there.
+// How many channels lead from the root to the one of a number, if it is there.
 pub(crate) fn depth_in(depths: &IndexMap<u32, usize>, number: u32) -> Option<usize>
     ensures { result ≡ depth_of depths.now.entries number }
 {
     depths.get(&number).copied()
 }
 
-/// The parent that an entry names.
+// The parent that an entry names.
 fn parent_in(object: &Object<'_>, depths: &IndexMap<u32, usize>) -> Result<Parent, DocumentError>
     ensures reads { let value = view object.now.value.now in
         Reads (rows_fault object.now.dot.now (parent_rows depths.now.entries value))
@@ -132,7 +132,7 @@ fn parent_in(object: &Object<'_>, depths: &IndexMap<u32, usize>) -> Result<Paren
     Ok(Parent { number, depth })
 }
 
-/// The name of an entry, which no channel so far has under the same parent.
+// The name of an entry, which no channel so far has under the same parent.
 fn name_in<'a>(
     object: &Object<'a>,
     parent: u32,
@@ -152,7 +152,7 @@ fn name_in<'a>(
     Ok(name)
 }
 
-/// Adds the edits of the root's entry.
+// Adds the edits of the root's entry.
 fn read_root<'a>(
     alloc: Global,
     value: &'a Value,
@@ -179,7 +179,7 @@ fn read_root<'a>(
     Ok(())
 }
 
-/// Adds the edit that makes a channel.
+// Adds the edit that makes a channel.
 fn push_made(
     alloc: Global,
     number: u32,
@@ -189,7 +189,8 @@ fn push_made(
     edits: &mut Vec<Edit>,
 ) -> Result<(), OutOfMemory>
     ensures { OnOk result (edits.new.items
-        ≡ edits.old.items ++ MakeChannel (record { 0 = number }) (record { 0 = parent }) name.now false (info_of info) None ∷ []) }
+        ≡ edits.old.items
+        ++ MakeChannel (record { 0 = number }) (record { 0 = parent }) name.now false (info_of info) None ∷ []) }
 {
     let info = info_of(alloc, info);
     match Text::of(alloc, name) {
@@ -211,7 +212,7 @@ fn push_made(
     }
 }
 
-/// Adds the edits of a channel that is made.
+// Adds the edits of a channel that is made.
 fn read_made<'a>(
     alloc: Global,
     value: &'a Value,
@@ -241,7 +242,7 @@ fn read_made<'a>(
     Ok(())
 }
 
-/// Adds the edits of an entry.
+// Adds the edits of an entry.
 fn read_channel<'a>(
     alloc: Global,
     value: &'a Value,
@@ -260,14 +261,14 @@ fn read_channel<'a>(
     }
 }
 
-/// Whether one of the entries is the root's.
+// Whether one of the entries is the root's.
 fn names_root(values: &[Value]) -> bool
     ensures { result ≡ list_any (λ value. is_root_entry (view value)) values.now }
 {
     values.iter().any(|value| is_root_entry(value))
 }
 
-/// Whether there are more entries than there can be channels.
+// Whether there are more entries than there can be channels.
 pub(crate) fn are_too_many(values: &[Value]) -> bool
     ensures { result ≡ are_too_many (map view values.now) }
 {
@@ -278,7 +279,7 @@ pub(crate) fn are_too_many(values: &[Value]) -> bool
     }
 }
 
-/// Adds the edits of channels to those that were met before.
+// Adds the edits of channels to those that were met before.
 fn add_channels<'a>(
     alloc: Global,
     values: &'a [Value],
@@ -298,7 +299,7 @@ fn add_channels<'a>(
     Ok(())
 }
 
-/// Adds the edits of channels, and gives for each channel how many lead to it from the root.
+// Adds the edits of channels, and gives for each channel how many lead to it from the root.
 pub(crate) fn read_channels(
     alloc: Global,
     values: &[Value],

@@ -30,7 +30,7 @@ use std::mem::drop;
 pub const DOCUMENT_LIMIT: usize = 65_536;
 
 /// The most workers of a server.
-pub const WORKERS: u32 = 8;
+pub const WORKERS_LIMIT: u32 = 8;
 
 /// The workers of a server where its document names none.
 pub const DEFAULT_WORKERS: u32 = 4;
@@ -38,7 +38,7 @@ pub const DEFAULT_WORKERS: u32 = 4;
 /// The limits of a document. This does nothing: its contract is what they are.
 pub fn limits()
     ensures document { DOCUMENT_LIMIT ≡ 65536 }
-    ensures workers { WORKERS ≡ 8 }
+    ensures workers { WORKERS_LIMIT ≡ 8 }
     ensures default_workers { DEFAULT_WORKERS ≡ 4 }
 {}
 
@@ -61,7 +61,7 @@ const KEYS: [&str; 7] = [
     "links",
 ];
 
-/// What a document says of the server itself.
+// What a document says of the server itself.
 #[derive(Drop)]
 struct Settings {
     welcome: Option<Text>,
@@ -77,7 +77,7 @@ fn read_settings(object: &Object<'_>) -> Result<Settings, DocumentError>
 {
     let welcome = object.text("welcome", TEXT_LIMIT)?;
     let bandwidth = object.number("bandwidth", 1, u32::MAX)?;
-    let workers = object.number("workers", 1, WORKERS)?;
+    let workers = object.number("workers", 1, WORKERS_LIMIT)?;
     let password = object.digest("server_password_sha256")?;
     Ok(Settings {
         welcome,
@@ -88,7 +88,7 @@ fn read_settings(object: &Object<'_>) -> Result<Settings, DocumentError>
 }
 
 impl Settings {
-    /// The edit that sets them; what is not given is as in an empty server.
+    // The edit that sets them; what is not given is as in an empty server.
     fn into_edit(self, alloc: Global) -> Edit
         ensures { result ≡ server_edit self }
     {
@@ -100,7 +100,7 @@ impl Settings {
     }
 }
 
-/// Adds the edits of the accounts, if there are any.
+// Adds the edits of the accounts, if there are any.
 fn accounts_in(object: &Object<'_>, edits: &mut Vec<Edit>) -> Result<(), DocumentError>
     ensures reads { Reads (rows_fault object.now.dot.now (account_list_rows (view object.now.value.now)))
         tt result }
@@ -111,7 +111,7 @@ fn accounts_in(object: &Object<'_>, edits: &mut Vec<Edit>) -> Result<(), Documen
     object.at("accounts", read_accounts(object.alloc, values, edits))
 }
 
-/// Adds the edits of the channels, and gives for each how many lead to it from the root.
+// Adds the edits of the channels, and gives for each how many lead to it from the root.
 fn channels_in(
     object: &Object<'_>,
     edits: &mut Vec<Edit>,
@@ -129,7 +129,7 @@ fn channels_in(
     }
 }
 
-/// Adds the edits of the links, if there are any.
+// Adds the edits of the links, if there are any.
 fn links_in(
     object: &Object<'_>,
     depths: &IndexMap<u32, usize>,
@@ -144,7 +144,7 @@ fn links_in(
     object.at("links", read_links(object.alloc, values, depths, edits))
 }
 
-/// Adds the edits of the three lists, one after the other.
+// Adds the edits of the three lists, one after the other.
 fn lists_in(object: &Object<'_>, edits: &mut Vec<Edit>) -> Result<(), DocumentError>
     ensures reads { let value = view object.now.value.now in
         Reads (rows_fault object.now.dot.now (account_list_rows value ++ channel_list_rows value
@@ -160,7 +160,7 @@ fn lists_in(object: &Object<'_>, edits: &mut Vec<Edit>) -> Result<(), DocumentEr
     read
 }
 
-/// The configuration that a document describes.
+// The configuration that a document describes.
 fn read_document(alloc: Global, document: &Value) -> Result<Config, DocumentError>
     ensures { Reads (object_fault_of (view document.now)) (config_of (view document.now)) result }
 {
@@ -189,7 +189,7 @@ fn read_document(alloc: Global, document: &Value) -> Result<Config, DocumentErro
     }
 }
 
-/// The value that a text is.
+// The value that a text is.
 fn read_value(alloc: Global, text: &[u8]) -> Result<Value, DocumentError>
     ensures { ReadsValue text.now result }
 {
@@ -219,7 +219,8 @@ fn read_text(alloc: Global, text: &[u8]) -> Result<Config, DocumentError>
 /// after the other from the empty state, also where limits of sessions and channels are set first, and
 /// there its settings and accounts fit alone too; a document has at most 1,024 channels whatever the
 /// limits are. Its workers are 1 to 8. The keys, and the order in which they are looked at, are in
-/// `docs/FORMATS.md`. Where a key comes twice the last one counts.
+/// `docs/FORMATS.md`. Where a key comes twice the last one counts. That out of memory is the answer only where
+/// something was allocated on the way is not proved.
 pub fn read_config(alloc: Global, text: &[u8]) -> Result<Config, BadConfig>
     ensures reads { ReadsConfig text.now result }
     ensures fits { IfOk result (λ config. IsTrue (all_fit empty_state config.edits)) }

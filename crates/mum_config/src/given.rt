@@ -14,7 +14,7 @@ use mum_state::Edit;
 use mum_tree::ChannelInfo;
 use std::alloc::Global;
 
-/// Info in which what is not given is plain.
+// Info in which what is not given is plain.
 pub(crate) fn info_of(alloc: Global, given: GivenInfo) -> ChannelInfo
     ensures { result ≡ info_of given }
 {
@@ -25,7 +25,7 @@ pub(crate) fn info_of(alloc: Global, given: GivenInfo) -> ChannelInfo
     }
 }
 
-/// Adds the edit of the root that sets what is given, if something is.
+// Adds the edit of the root that sets what is given, if something is.
 pub(crate) fn push_root_edit(
     alloc: Global,
     given: GivenInfo,
@@ -54,7 +54,7 @@ pub(crate) fn push_root_edit(
     Ok(())
 }
 
-/// Adds the edit that gives the channel this policy, if something of one is given.
+// Adds the edit that gives the channel this policy, if something of one is given.
 fn push_policy(
     alloc: Global,
     given: GivenPolicy,
@@ -82,7 +82,7 @@ fn push_policy(
     Ok(())
 }
 
-/// Adds the edit of the policy that an object gives the channel, if it gives something of one.
+// Adds the edit of the policy that an object gives the channel, if it gives something of one.
 pub(crate) fn add_policy(
     object: &Object<'_>,
     channel: ChannelId,

@@ -13,11 +13,11 @@ use indexmap::{IndexMap, IndexSet};
 use mum_base::{ChannelId, Items, OutOfMemory};
 use mum_document::{ConfigFault, DocumentError, at_place, fault_at, read_number};
 use mum_state::Edit;
-use mum_tree::LINK_LIMIT;
+use mum_tree::CHANNEL_LINK_LIMIT;
 use serde_json::Value;
 use std::alloc::Global;
 
-/// The links so far.
+// The links so far.
 #[derive(Drop)]
 struct Met {
     /// Each once, with its lesser channel first.
@@ -26,7 +26,7 @@ struct Met {
     counts: IndexMap<u32, usize>,
 }
 
-/// The channels of a link, the lesser first.
+// The channels of a link, the lesser first.
 fn ends_of(a: u32, b: u32) -> (u32, u32)
     ensures { result ≡ ends_of a b }
 {
@@ -34,14 +34,14 @@ fn ends_of(a: u32, b: u32) -> (u32, u32)
 }
 
 impl Met {
-    /// Whether the link joins two channels that no link joins yet.
+    // Whether the link joins two channels that no link joins yet.
     fn is_new(&self, a: u32, b: u32) -> bool
         ensures { result ≡ is_new self.now.ends.keys a b }
     {
         a != b && !self.ends.contains(&ends_of(a, b))
     }
 
-    /// How many channels links join to this one.
+    // How many channels links join to this one.
     fn count(&self, channel: u32) -> usize
         requires { AreCounted self.now.counts.entries self.now.ends.keys }
         ensures { result ≡ link_count self.now.ends.keys channel }
@@ -49,7 +49,7 @@ impl Met {
         depth_in(&self.counts, channel).unwrap_or(0)
     }
 
-    /// Adds a link that is new, of channels that may have one more.
+    // Adds a link that is new, of channels that may have one more.
     fn add(&mut self, a: u32, b: u32) -> Result<(), OutOfMemory>
         requires counted { AreCounted self.old.counts.entries self.old.ends.keys }
         requires new { is_new self.old.ends.keys a b ≡ true }
@@ -66,7 +66,7 @@ impl Met {
         Ok(())
     }
 
-    /// Notes a link, if it is new; refuses it where one of its channels has all that it may have.
+    // Notes a link, if it is new; refuses it where one of its channels has all that it may have.
     fn note(&mut self, alloc: Global, a: u32, b: u32) -> Result<(), DocumentError>
         requires { AreCounted self.old.counts.entries self.old.ends.keys }
         ensures reads { Reads (crowding_fault self.old.ends.keys a b) tt result }
@@ -76,7 +76,7 @@ impl Met {
         if !self.is_new(a, b) {
             return Ok(());
         }
-        if self.count(a) >= LINK_LIMIT || self.count(b) >= LINK_LIMIT {
+        if self.count(a) >= CHANNEL_LINK_LIMIT || self.count(b) >= CHANNEL_LINK_LIMIT {
             return Err(fault_at(alloc, ConfigFault::Limit, ""));
         }
         self.add(a, b)?;
@@ -84,7 +84,7 @@ impl Met {
     }
 }
 
-/// One of the channels of a link, which is there.
+// One of the channels of a link, which is there.
 fn read_end(
     alloc: Global,
     value: &Value,
@@ -102,7 +102,7 @@ fn read_end(
     Ok(number)
 }
 
-/// Adds the edit that adds a link to its first channel.
+// Adds the edit that adds a link to its first channel.
 fn push_link(alloc: Global, from: u32, to: u32, edits: &mut Vec<Edit>) -> Result<(), OutOfMemory>
     ensures { OnOk result (edits.new.items ≡ edits.old.items ++ join_edit from to ∷ []) }
 {
@@ -122,7 +122,7 @@ fn push_link(alloc: Global, from: u32, to: u32, edits: &mut Vec<Edit>) -> Result
     Ok(())
 }
 
-/// The two values of a pair.
+// The two values of a pair.
 fn pair_in(value: &Value) -> Option<(&Value, &Value)>
     ensures { option_map (λ pair. (view pair.0.now, view pair.1.now)) result ≡ pair_of (view value.now) }
 {
@@ -133,7 +133,7 @@ fn pair_in(value: &Value) -> Option<(&Value, &Value)>
     Some((&values[0], &values[1]))
 }
 
-/// Adds the edit of a link.
+// Adds the edit of a link.
 fn read_link(
     alloc: Global,
     value: &Value,
@@ -158,7 +158,7 @@ fn read_link(
     Ok(())
 }
 
-/// Adds the edits of links to those that were met before.
+// Adds the edits of links to those that were met before.
 fn add_links(
     alloc: Global,
     values: &[Value],
@@ -178,7 +178,7 @@ fn add_links(
     Ok(())
 }
 
-/// Adds the edits of links between channels of which these are the depths.
+// Adds the edits of links between channels of which these are the depths.
 pub(crate) fn read_links(
     alloc: Global,
     values: &[Value],

@@ -1,35 +1,6 @@
 -- A server password that is given is asked for.
-use Rattle.std.proofs.Common.{◌≡◌, ◌≢◌, ℕ, Bool, true, false, cond, not, List, [], ◌∷◌, Option, None, Some, inl, inr, refl, sym, ap, subst, ◌∙◌}
-use Rattle.std.specs.Prelude.{codes, find, unwrap_or}
-use Rattle.std.specs.Option.{option_map_or}
-use Rattle.std.specs.Result.{result_unwrap_or}
-use Rattle.std.specs.Str.{bytes_eq}
-use Rattle.std.proofs.lemmas.Bool.{false≢true}
-use Rattle.std.proofs.lemmas.Option.{same_Some}
-use Rattle.std.proofs.lemmas.Slice.Eq.{bytes_eq-Decides}
-use Rattle.hex.specs.Hex.{decode_sized}
-use Rattle.sha2.specs.Sha256.{sha256}
-use Rattle.serde_json.specs.Data.{Data, string}
-use Rattle.serde_json.specs.Find.{get}
-use Rattle.mum_base.specs.Codes.{reason_code, reject_code}
-use Rattle.mum_base.specs.declared.outcome.Reason.{Reason}
-use Rattle.mum_base.specs.declared.outcome.RejectType.{RejectType}
-use Rattle.mum_base.specs.declared.outcome.RejectType.TheVariants.{InvalidUsername, WrongServerPW, WrongUserPW, WrongVersion}
-use Rattle.mum_state.specs.declared.account.Account.{Account}
-use Rattle.mum_state.specs.declared.verdict.Verdict.{Verdict}
-use Rattle.mum_state.specs.declared.verdict.Verdict.TheVariants.{Accepted, Ignored, Rejected}
-use Rattle.mum_state.specs.After.{led_to}
-use Rattle.mum_state.specs.Proper.{is_name}
-use Rattle.mum_state.specs.State.{StateValue, account_named, is_named}
-use Rattle.mum_rules_tree.specs.Decision.{Case, case_of, first_standing}
-use Rattle.mum_rules_user.specs.Login.{edit_to_join, is_no_guest, is_not_the_owner, is_old, limits_of_seat}
-use Rattle.mum_rules_user.specs.Reasons.{reasons}
-use Rattle.mum_rules_user.specs.declared.message.UserMessage.TheVariants.{Join}
-use Rattle.mum_config_laws.specs.Opened.{IsAllGiven, IsGivenThere}
-use Rattle.mum_config_laws.specs.Passwords.{IsTurnedAway, ThePasswordIsAskedFor}
-use Rattle.mum_config_laws.specs.Values.{IsDigest, IsText, Says, SaysMaybe}
-use Rattle.mum_config_laws.proofs.Lists.{in_contained, In}
-use Rattle.mum_config_laws.proofs.Opening.{nothing_else_is_there_lem, what_is_given_is_there_lem}
+use Rattle.mum_config_laws.proofs.Common.{◌≡◌, ◌≢◌, ℕ, Bool, true, false, cond, not, List, [], ◌∷◌, Option, None, Some, inl, inr, refl, sym, ap, subst, ◌∙◌, codes, find, unwrap_or, option_map_or, result_unwrap_or, bytes_eq, false≢true, same_Some, bytes_eq-Decides, decode_sized, sha256, Data, string, get, reason_code, reject_code, Reason, RejectType, InvalidUsername, WrongServerPW, WrongUserPW, WrongVersion, Account, Verdict, Accepted, Ignored, Rejected, led_to, is_name, StateValue, account_named, is_named, Case, case_of, first_standing, edit_to_join, is_no_guest, is_not_the_owner, is_old, limits_of_seat, reasons, Join, IsAllGiven, IsGivenThere, IsTurnedAway, ThePasswordIsAskedFor, IsDigest, IsText, Says, SaysMaybe}
+use Rattle.mum_config_laws.proofs.{Lists.in_contained, Lists.In, Opening.nothing_else_is_there_lem, Opening.what_is_given_is_there_lem}
 
 -- ---- no account has the name
 

@@ -1,14 +1,5 @@
 -- To what edits lead that fit one after the other, from a state in which nobody is.
-use Rattle.std.proofs.Common.{◌≡◌, ℕ, suc, ◌&&◌, true, List, ◌∷◌, sym, subst}
-use Rattle.std.proofs.lemmas.Bool.{and_parts}
-use Rattle.mum_state.specs.declared.edit.Edit.{Edit}
-use Rattle.mum_state.specs.After.{all_fit, led_to}
-use Rattle.mum_state.specs.Applied.{applied}
-use Rattle.mum_state.specs.Fits.{fits, gives_right_numbers, is_countable, sets_properly}
-use Rattle.mum_state.specs.Kinds.{is_of_configuration}
-use Rattle.mum_state.specs.Named.{names_there}
-use Rattle.mum_state.specs.State.{StateValue}
-use Rattle.mum_config.proofs.Bare.{IsBare, Leads, leads}
+use Rattle.mum_config_laws.proofs.Common.{◌≡◌, ℕ, suc, ◌&&◌, true, List, ◌∷◌, sym, subst, and_parts, Edit, all_fit, led_to, applied, fits, gives_right_numbers, is_countable, sets_properly, is_of_configuration, names_there, StateValue, IsBare, Leads, leads}
 
 -- where the edits fit, this holds of the state to which they lead
 abbrev pub Goes : (StateValue → Type 0) → StateValue → List Edit → Type 0

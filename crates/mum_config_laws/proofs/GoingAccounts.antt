@@ -1,19 +1,6 @@
 -- The accounts of a configuration are there, and no others.
-use Rattle.std.proofs.Common.{◌≡◌, ℕ, suc, ◌+◌, ◌⊎◌, Bool, true, false, cond, List, [], ◌∷◌, ◌++◌, length, map, None, inl, inr, refl, sym, ap, subst, ◌∙◌, arith}
-use Rattle.serde_json.specs.Data.{Data}
-use Rattle.mum_state.specs.declared.account.Account.{Account}
-use Rattle.mum_state.specs.declared.edit.Edit.{Edit}
-use Rattle.mum_state.specs.Applied.{applied}
-use Rattle.mum_state.specs.State.{StateValue, account_below, with_account}
-use Rattle.mum_state.proofs.Each.{Each}
-use Rattle.mum_document.specs.Object.{elements_fault}
-use Rattle.mum_document.proofs.First.{first_none, later_none, none_within}
-use Rattle.mum_config.specs.Account.{AccountsMet, account_edit, account_fault, with_account_met}
-use Rattle.mum_config.proofs.Bare.{IsBare, less_left}
-use Rattle.mum_config_laws.specs.Entries.{SaysAccount}
-use Rattle.mum_config_laws.proofs.Going.{Goes, one_goes}
-use Rattle.mum_config_laws.proofs.Lists.{In}
-use Rattle.mum_config_laws.proofs.SaidEntries.{account_row, account_said}
+use Rattle.mum_config_laws.proofs.Common.{◌≡◌, ℕ, suc, ◌+◌, ◌⊎◌, Bool, true, false, cond, List, [], ◌∷◌, ◌++◌, length, map, None, inl, inr, refl, sym, ap, subst, ◌∙◌, arith, Data, Account, Edit, applied, StateValue, account_below, with_account, Each, elements_fault, first_none, later_none, none_within, AccountsMet, account_edit, account_fault, with_account_met, IsBare, less_left, SaysAccount}
+use Rattle.mum_config_laws.proofs.{Going.Goes, Going.one_goes, Lists.In, SaidEntries.account_row, SaidEntries.account_said}
 
 -- ---- one account more
 

@@ -1,51 +1,6 @@
 -- The channels of a configuration are there with their policies, and no others but the root.
-use Rattle.std.proofs.Common.{◌≡◌, ℕ, suc, ◌+◌, ◌*◌, ◌<◌, ◌≤◌, ◌⊎◌, ◌==◌, ◌&&◌, ◌||◌, Bool, true, false, cond, eqb, not, List, [], ◌∷◌, ◌++◌, length, map, get_or, Option, None, Some, append_assoc, inl, inr, refl, sym, ap, subst, ◌∙◌, arith}
-use Rattle.std.specs.Prelude.{codes, is_some, nat_eq, nat_lt, pos, unwrap_or}
-use Rattle.std.specs.List.{flat_map}
-use Rattle.std.specs.Option.{option_and_then, option_map, option_map_or}
-use Rattle.std.proofs.lemmas.Bool.{and_parts, eq-eqb, eqb-true, ne_eqb}
-use Rattle.std.proofs.lemmas.Bool.Decides.{nat_tests}
-use Rattle.std.proofs.lemmas.List.{map-append}
-use Rattle.serde_json.specs.Data.{Data, negative, float, number, unsigned}
-use Rattle.serde_json.specs.Find.{as_number, as_u64, get}
-use Rattle.indexmap.specs.IndexMap.{insert_entry}
-use Rattle.mum_base.specs.declared.number.ChannelId.{ChannelId}
-use Rattle.mum_base.specs.declared.number.TheConstants.ChannelId.{ROOT}
-use Rattle.mum_policy.specs.declared.policy.AclEntry.{AclEntry}
-use Rattle.mum_policy.specs.declared.policy.Group.{Group as GroupRow}
-use Rattle.mum_policy.specs.declared.policy.ChannelPolicy.{ChannelPolicy}
-use Rattle.mum_tree.specs.declared.channel.Channel.{Channel}
-use Rattle.mum_tree.specs.declared.channel.ChannelInfo.{ChannelInfo}
-use Rattle.mum_tree.specs.declared.channel.Row.{Row}
-use Rattle.mum_tree.specs.Change.{given_or, with_given}
-use Rattle.mum_tree.specs.Places.{least_place}
-use Rattle.mum_tree.specs.Rows.{number as number_of_row}
-use Rattle.mum_tree.specs.State.{TreeState, changed, new_row, plain_info, root_alone, with_info, with_new}
-use Rattle.mum_tree.proofs.Changed.{changed_none}
-use Rattle.mum_state.specs.declared.edit.Edit.{Edit}
-use Rattle.mum_state.specs.declared.edit.Edit.TheVariants.{EditChannel, MakeChannel, SetAcl}
-use Rattle.mum_state.specs.Applied.{applied}
-use Rattle.mum_state.specs.Fits.{fits, gives_right_numbers, is_countable, sets_properly}
-use Rattle.mum_state.specs.Named.{names_there}
-use Rattle.mum_state.specs.Parts.{channel_parts}
-use Rattle.mum_state.specs.Set.{set_policy, with_policy}
-use Rattle.mum_state.specs.State.{PolicyRow, StateValue, open_policy, policy_row}
-use Rattle.mum_state.proofs.Each.{Each, each_append, each_from_all, each_map, each_so, map_stays}
-use Rattle.mum_document.specs.declared.given.GivenInfo.{GivenInfo}
-use Rattle.mum_document.specs.declared.given.GivenPolicy.{GivenPolicy}
-use Rattle.mum_document.specs.Given.{given_info, given_policy, info_rows, policy_rows}
-use Rattle.mum_document.specs.Object.{elements_fault, opening_fault, rows_fault}
-use Rattle.mum_document.specs.Value.{greatest, name_fault, needed, number_fault, number_of, text_of}
-use Rattle.mum_document.proofs.First.{first_none, later_none, none_within}
-use Rattle.mum_config.specs.Channel.{ChannelsMet, channel_edits, channel_fault, channel_name, channel_number, depth_above, gives_info, gives_policy, info_of, is_root_entry, made_edit, made_fault, name_rows, number_rows, parent_number, parent_rows, policy_edits, policy_of, rises, root_edits, root_fault, shared_names, with_channel_met}
-use Rattle.mum_config.proofs.Bare.{IsBare, less_left}
-use Rattle.mum_config.proofs.Said.{each_row, not_against, rows_apart}
-use Rattle.mum_config_laws.specs.Entries.{IsOf, SaysChannel, SaysPolicy}
-use Rattle.mum_config_laws.specs.Values.{IsNumber, IsText, Says}
-use Rattle.mum_config_laws.proofs.Going.{Goes, goes_same, one_goes}
-use Rattle.mum_config_laws.proofs.Lists.{In, in_back, in_front}
-use Rattle.mum_config_laws.proofs.SaidEntries.{info_said, policy_said}
-use Rattle.mum_config_laws.proofs.SaidValues.{name_said, needed_said, number_said}
+use Rattle.mum_config_laws.proofs.Common.{◌≡◌, ℕ, suc, ◌+◌, ◌*◌, ◌<◌, ◌≤◌, ◌⊎◌, ◌==◌, ◌&&◌, ◌||◌, Bool, true, false, cond, eqb, not, List, [], ◌∷◌, ◌++◌, length, map, get_or, Option, None, Some, append_assoc, inl, inr, refl, sym, ap, subst, ◌∙◌, arith, codes, is_some, nat_eq, nat_lt, pos, unwrap_or, flat_map, option_and_then, option_map, option_map_or, and_parts, eq-eqb, eqb-true, ne_eqb, nat_tests, map-append, Data, negative, float, number, unsigned, as_number, as_u64, get, insert_entry, ChannelId, ROOT, AclEntry, GroupRow, ChannelPolicy, Channel, ChannelInfo, Row, given_or, with_given, least_place, number_of_row, TreeState, changed, new_row, plain_info, root_alone, with_info, with_new, changed_none, Edit, EditChannel, MakeChannel, SetAcl, applied, fits, gives_right_numbers, is_countable, sets_properly, names_there, channel_parts, set_policy, with_policy, PolicyRow, StateValue, open_policy, policy_row, Each, each_append, each_from_all, each_map, each_so, map_stays, GivenInfo, GivenPolicy, given_info, given_policy, info_rows, policy_rows, elements_fault, opening_fault, rows_fault, greatest, name_fault, needed, number_fault, number_of, text_of, first_none, later_none, none_within, ChannelsMet, channel_edits, channel_fault, channel_name, channel_number, depth_above, gives_info, gives_policy, info_of, is_root_entry, made_edit, made_fault, name_rows, number_rows, parent_number, parent_rows, policy_edits, policy_of, rises, root_edits, root_fault, shared_names, with_channel_met, IsBare, less_left, each_row, not_against, rows_apart, IsOf, SaysChannel, SaysPolicy, IsNumber, IsText, Says}
+use Rattle.mum_config_laws.proofs.{Going.Goes, Going.goes_same, Going.one_goes, Lists.In, Lists.in_back, Lists.in_front, SaidEntries.info_said, SaidEntries.policy_said, SaidValues.name_said, SaidValues.needed_said, SaidValues.number_said}
 
 abbrev channel : ℕ → ChannelId
 channel n = record { 0 = n }
@@ -101,7 +56,7 @@ module _ (all left : List Data) (value : Data) (row : Row) (policy : PolicyRow) 
   new_there : (channels : List Row) (policies : List PolicyRow) → In row channels → In policy policies → ChannelThere channels policies value
   new_there channels policies there ruled = record { row = row; policy = policy; there = there; ruled = ruled; one = one; channel = says; rules = rules }
 
-  -- behind the others
+  -- after the others
   made_so : (channels : List Row) (policies : List PolicyRow) → ChannelsSo all (value ∷ left) channels policies → ChannelsSo all left (channels ++ row ∷ []) (policies ++ policy ∷ [])
   made_so channels policies so =
       let new : ChannelThere (channels ++ row ∷ []) (policies ++ policy ∷ []) value =

@@ -1,29 +1,7 @@
 -- The links of a configuration are there, and no others.
-use Rattle.std.proofs.Common.{◌≡◌, ◌≢◌, ℕ, suc, ◌+◌, ◌⊎◌, ◌==◌, ◌||◌, Bool, true, false, cond, eqb, List, [], ◌∷◌, length, map, Option, None, Some, inl, inr, refl, sym, ap, subst, ◌∙◌, arith}
-use Rattle.std.specs.Option.{option_map_or}
-use Rattle.std.specs.List.{Contains, list_any}
-use Rattle.std.proofs.lemmas.Bool.{and_parts, eqb-true}
-use Rattle.serde_json.specs.Data.{Data, Items, array, item, no_items}
-use Rattle.mum_base.specs.declared.number.ChannelId.{ChannelId}
-use Rattle.mum_tree.specs.declared.channel.Row.{Row}
-use Rattle.mum_tree.specs.Change.{Change, with_given}
+use Rattle.mum_config_laws.proofs.Common.{◌≡◌, ◌≢◌, ℕ, suc, ◌+◌, ◌⊎◌, ◌==◌, ◌||◌, Bool, true, false, cond, eqb, List, [], ◌∷◌, length, map, Option, None, Some, inl, inr, refl, sym, ap, subst, ◌∙◌, arith, option_map_or, Contains, list_any, and_parts, eqb-true, Data, Items, array, item, no_items, ChannelId, Row, Change, with_given, Pair, changed, is_above, is_pair, pairs_with, with_pair, applied, channel_parts, StateValue, Each, each_from_all, WrongKind, against, place_text, within, elements_fault, elements_in, greatest, number_fault, number_of, first_none, later_none, none_within, Ends, end_fault, ends_fault, first_end, link_edit, link_fault, pair_in, pair_of, second_end, with_link_met, IsBare, less_left, SaysLink}
 use Rattle.mum_tree.specs.Rows.{number}
-use Rattle.mum_tree.specs.State.{Pair, changed, is_above, is_pair, pairs_with, with_pair}
-use Rattle.mum_state.specs.Applied.{applied}
-use Rattle.mum_state.specs.Parts.{channel_parts}
-use Rattle.mum_state.specs.State.{StateValue}
-use Rattle.mum_state.proofs.Each.{Each, each_from_all}
-use Rattle.mum_document.specs.declared.fault.ConfigFault.TheVariants.{WrongKind}
-use Rattle.mum_document.specs.Fault.{against, place_text, within}
-use Rattle.mum_document.specs.Object.{elements_fault}
-use Rattle.mum_document.specs.Value.{elements_in, greatest, number_fault, number_of}
-use Rattle.mum_document.proofs.First.{first_none, later_none, none_within}
-use Rattle.mum_config.specs.Link.{Ends, end_fault, ends_fault, first_end, link_edit, link_fault, pair_in, pair_of, second_end, with_link_met}
-use Rattle.mum_config.proofs.Bare.{IsBare, less_left}
-use Rattle.mum_config_laws.specs.Entries.{SaysLink}
-use Rattle.mum_config_laws.proofs.Going.{Goes, one_goes}
-use Rattle.mum_config_laws.proofs.Lists.{In, contained_in, each_in}
-use Rattle.mum_config_laws.proofs.SaidValues.{number_said}
+use Rattle.mum_config_laws.proofs.{Going.Goes, Going.one_goes, Lists.In, Lists.contained_in, Lists.each_in, SaidValues.number_said}
 
 abbrev channel : ℕ → ChannelId
 channel n = record { 0 = n }

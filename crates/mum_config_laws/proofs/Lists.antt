@@ -1,8 +1,5 @@
 -- What is in a list.
-use Rattle.std.proofs.Common.{◌≡◌, ℕ, zero, suc, ◌<◌, ◌⊎◌, List, [], ◌∷◌, ◌++◌, length, inl, inr, refl, subst, arith}
-use Rattle.std.specs.List.{Contains}
-use Rattle.std.specs.Prelude.{slice_index_or}
-use Rattle.mum_state.proofs.Each.{Each}
+use Rattle.mum_config_laws.proofs.Common.{◌≡◌, ℕ, zero, suc, ◌<◌, ◌⊎◌, List, [], ◌∷◌, ◌++◌, length, inl, inr, refl, subst, arith, Contains, slice_index_or, Each}
 
 abbrev pub In : {X : Type 0} → X → List X → Type 0
 In x [] = ⊥

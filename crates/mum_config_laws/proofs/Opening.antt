@@ -1,52 +1,10 @@
 -- What a configuration gives is in the state with which a server begins, and nothing else.
-use Rattle.std.proofs.Common.{◌≡◌, ℕ, ◌+◌, ◌*◌, ◌≤◌, ◌⊎◌, true, false, List, [], ◌∷◌, ◌++◌, length, map, None, Some, Ok, append_assoc, inl, inr, refl, sym, ap, subst, ◌∙◌, arith}
-use Rattle.std.specs.Prelude.{codes, nat_lt}
-use Rattle.std.specs.List.{flat_map}
-use Rattle.std.specs.Option.{option_map}
-use Rattle.std.specs.Str.{is_utf8}
-use Rattle.std.proofs.lemmas.Bool.Decides.{nat_tests}
-use Rattle.std.proofs.lemmas.Option.{none-some, same_Some}
-use Rattle.serde_json.specs.Data.{Data}
-use Rattle.serde_json.specs.Find.{get}
-use Rattle.serde_json.specs.Read.{read}
-use Rattle.mum_base.specs.declared.number.TheConstants.ChannelId.{ROOT}
-use Rattle.mum_base.specs.declared.name.TheConstants.{TEXT_LIMIT}
-use Rattle.mum_tree.specs.declared.channel.Row.{Row}
-use Rattle.mum_tree.specs.State.{root_alone}
-use Rattle.mum_state.specs.declared.account.Account.{Account}
-use Rattle.mum_state.specs.declared.edit.Edit.{Edit}
-use Rattle.mum_state.specs.declared.edit.Edit.TheVariants.{SetLimits}
-use Rattle.mum_state.specs.After.{all_fit, led_to}
-use Rattle.mum_state.specs.Applied.{applied}
-use Rattle.mum_state.specs.Fits.{fits}
-use Rattle.mum_state.specs.State.{PolicyRow, StateValue, empty_state, policy_row}
-use Rattle.mum_state.proofs.Each.{Each}
-use Rattle.mum_document.specs.Object.{rows_fault, unknown_fault}
-use Rattle.mum_document.specs.Value.{digest_fault, digest_of, greatest, number_fault, number_of, text_fault, text_of}
-use Rattle.mum_document.specs.declared.fault.ConfigFault.TheVariants.{NotAnObject}
-use Rattle.mum_document.proofs.First.{later_none}
-use Rattle.mum_config.specs.declared.config.Config.{Config}
-use Rattle.mum_config.specs.declared.config.TheConstants.{WORKERS}
-use Rattle.mum_config.specs.Account.{account_edit, no_accounts}
-use Rattle.mum_config.specs.Channel.{channel_edits, root_met}
-use Rattle.mum_config.specs.Document.{ReadsConfig, account_list_rows, accounts_in, against_document, channel_list_rows, channels_in, channels_met, config_of, document_names, document_rows, edits_of, link_list_rows, links_in, object_fault_of, server_edit, settings_of, settings_rows, value_of}
-use Rattle.mum_config.specs.Link.{link_edit}
-use Rattle.mum_config.proofs.Bare.{IsBare, Leads, empty_bare, less_left}
-use Rattle.mum_config.proofs.FitDocument.{said_of_value, same_edits, text_fits, text_fits_limits}
-use Rattle.mum_config.proofs.Said.{each_row, list_short, rows_apart}
-use Rattle.mum_config_laws.specs.Opened.{IsChannelGiven, IsFirst, IsPolicyGiven, IsSetAsGiven, NothingElseIsThere, OfConfigurations, WhatIsGivenIsThere}
-use Rattle.mum_config_laws.specs.Entries.{SaysAccount}
-use Rattle.mum_config_laws.specs.Values.{IsDigest, IsNumber, IsText}
-use Rattle.mum_config_laws.proofs.Going.{Goes, goes_same, led_by_fit, one_goes}
-use Rattle.mum_config_laws.proofs.GoingAccounts.{AccountsSo, accounts_go}
-use Rattle.mum_config_laws.proofs.GoingChannels.{ChannelsSo, PolicyGiven, RowGiven, channels_go}
-use Rattle.mum_config_laws.proofs.GoingLinks.{LinkGiven, LinksSo, links_go}
-use Rattle.mum_config_laws.proofs.Lists.{In, all_in, contained_in, each_in, in_contained}
-use Rattle.mum_config_laws.proofs.SaidValues.{digest_said, in_listed, listed_in, maybe_said, number_said, text_said, wanted_said}
+use Rattle.mum_config_laws.proofs.Common.{◌≡◌, ℕ, ◌+◌, ◌*◌, ◌≤◌, ◌⊎◌, true, false, List, [], ◌∷◌, ◌++◌, length, map, None, Some, Ok, append_assoc, inl, inr, refl, sym, ap, subst, ◌∙◌, arith, codes, nat_lt, flat_map, option_map, is_utf8, nat_tests, none-some, same_Some, Data, get, read, ROOT, TEXT_LIMIT, Row, root_alone, Account, Edit, SetLimits, all_fit, led_to, applied, fits, PolicyRow, StateValue, empty_state, policy_row, Each, rows_fault, unknown_fault, digest_fault, digest_of, greatest, number_fault, number_of, text_fault, text_of, NotAnObject, later_none, Config, WORKERS_LIMIT, account_edit, no_accounts, channel_edits, root_met, ReadsConfig, account_list_rows, accounts_in, against_document, channel_list_rows, channels_in, channels_met, config_of, document_names, document_rows, edits_of, link_list_rows, links_in, object_fault_of, server_edit, settings_of, settings_rows, value_of, link_edit, IsBare, Leads, empty_bare, less_left, said_of_value, same_edits, text_fits, text_fits_limits, each_row, list_short, rows_apart, IsChannelGiven, IsFirst, IsPolicyGiven, IsSetAsGiven, NothingElseIsThere, OfConfigurations, WhatIsGivenIsThere, SaysAccount, IsDigest, IsNumber, IsText}
+use Rattle.mum_config_laws.proofs.{Going.Goes, Going.goes_same, Going.led_by_fit, Going.one_goes, GoingAccounts.AccountsSo, GoingAccounts.accounts_go, GoingChannels.ChannelsSo, GoingChannels.PolicyGiven, GoingChannels.RowGiven, GoingChannels.channels_go, GoingLinks.LinkGiven, GoingLinks.LinksSo, GoingLinks.links_go, Lists.In, Lists.all_in, Lists.contained_in, Lists.each_in, Lists.in_contained, SaidValues.digest_said, SaidValues.in_listed, SaidValues.listed_in, SaidValues.maybe_said, SaidValues.number_said, SaidValues.text_said, SaidValues.wanted_said}
 
 -- ---- before anything is given
 
--- nobody is there, no account, no link and no channel but the root; and so many edits more can be counted
+-- nobody is there, no account, no link and no channel but the root; and n edits more can be counted
 record IsFresh (state : StateValue) : Type 0 where
   bare : IsBare 300001 state
   no_accounts : state.accounts ≡ []
@@ -170,7 +128,7 @@ document_goes document first none fresh =
       settings = subst (λ s. IsSetAsGiven document (config_of document) (record later { server = s })) (sym server) (record {
         welcome = wanted_said (text_fault TEXT_LIMIT) text_of IsText (text_said TEXT_LIMIT) [] (get (codes "welcome") document) of_settings.0;
         bandwidth = wanted_said (number_fault 1 greatest) number_of IsNumber (number_said 1 greatest) 72000 (get (codes "bandwidth") document) of_settings.1.0;
-        workers = wanted_said (number_fault 1 WORKERS) number_of IsNumber (number_said 1 WORKERS) 4 (get (codes "workers") document) of_settings.1.1.0;
+        workers = wanted_said (number_fault 1 WORKERS_LIMIT) number_of IsNumber (number_said 1 WORKERS_LIMIT) 4 (get (codes "workers") document) of_settings.1.1.0;
         password = maybe_said digest_fault digest_of IsDigest digest_said (get (codes "server_password_sha256") document) of_settings.1.1.1.0;
       });
       lists = lists;

@@ -1,24 +1,6 @@
 -- An entry of which nothing is said against says what it is read as.
-use Rattle.std.proofs.Common.{◌≡◌, ℕ, ◌&&◌, true, false, not, List, [], map, Option, None, Some, refl, subst}
-use Rattle.std.specs.Prelude.{bit_and, codes, is_some, pos, unwrap_or}
-use Rattle.std.specs.Option.{option_map, option_map_or}
-use Rattle.serde_json.specs.Data.{Data}
-use Rattle.serde_json.specs.Find.{get}
-use Rattle.mum_base.specs.declared.name.TheConstants.{TEXT_LIMIT, NAME_LIMIT}
-use Rattle.mum_base.specs.declared.perm.TheConstants.Perm.{ALL}
-use Rattle.mum_policy.specs.declared.policy.Whom.TheVariants.{Account, Group}
-use Rattle.mum_policy.specs.declared.policy.TheConstants.{ENTRIES, GROUPS, GROUP_ACCOUNTS}
-use Rattle.mum_state.specs.declared.account.Account.{Account as AccountRow}
-use Rattle.mum_state.proofs.Each.{Each}
-use Rattle.mum_document.specs.Given.{given_info, given_policy, info_rows, policy_rows}
-use Rattle.mum_document.specs.Object.{elements_at, opening_fault, rows_fault}
-use Rattle.mum_document.specs.Policy.{account_of, entry_fault, entry_names, entry_of, entry_rows, group_fault, group_names, group_of, group_rows, with_group_met}
-use Rattle.mum_document.specs.Value.{digest_fault, digest_of, elements_of, flag_fault, flag_of, greatest, name_fault, number_fault, number_of, signed_fault, signed_of, text_fault, text_of, wanted}
-use Rattle.mum_config.specs.Account.{AccountsMet, account_fault, account_name, account_names, account_number, account_rows, digest_at}
-use Rattle.mum_config.specs.Channel.{info_of, policy_of}
-use Rattle.mum_config.proofs.Said.{each_alone, each_element, each_row, not_against, object_rows}
-use Rattle.mum_config_laws.specs.Values.{IsAccountNumber, IsDigest, IsFlag, IsListOf, IsNumber, IsSet, IsSigned, IsText, Says, SaysOr}
-use Rattle.mum_config_laws.specs.Entries.{SaysAccount, SaysEntry, SaysGroup, SaysInfo, SaysPolicy, SaysWhom, no_permission}
+use Rattle.mum_config_laws.proofs.Common.{◌≡◌, ℕ, ◌&&◌, true, false, not, List, [], map, Option, None, Some, refl, subst, bit_and, codes, is_some, pos, unwrap_or, option_map, option_map_or, Data, get, TEXT_LIMIT, NAME_LIMIT, ALL, Group, ENTRIES, GROUPS, GROUP_ACCOUNTS, AccountRow, Each, given_info, given_policy, info_rows, policy_rows, elements_at, opening_fault, rows_fault, account_of, entry_fault, entry_names, entry_of, entry_rows, group_fault, group_names, group_of, group_rows, with_group_met, digest_fault, digest_of, elements_of, flag_fault, flag_of, greatest, name_fault, number_fault, number_of, signed_fault, signed_of, text_fault, text_of, wanted, AccountsMet, account_fault, account_name, account_names, account_number, account_rows, digest_at, info_of, policy_of, each_alone, each_element, each_row, not_against, object_rows, IsAccountNumber, IsDigest, IsFlag, IsListOf, IsNumber, IsSet, IsSigned, IsText, Says, SaysOr, SaysAccount, SaysEntry, SaysGroup, SaysInfo, SaysPolicy, SaysWhom, no_permission}
+use Rattle.mum_policy.specs.declared.policy.Whom.TheVariants.{Account}
 use Rattle.mum_config_laws.proofs.SaidValues.{digest_said, flag_said, list_or, name_said, needed_said, number_said, signed_said, text_said, wanted_said}
 
 -- ---- accounts

@@ -1,17 +1,5 @@
 -- A value of which nothing is said against says what it is read as.
-use Rattle.std.proofs.Common.{◌≡◌, ℕ, Bool, true, false, not, List, [], map, Option, None, Some, Result, Ok, Err, inl, inr, refl, sym, ap, subst}
-use Rattle.std.specs.Prelude.{is_ok, unwrap_or}
-use Rattle.std.specs.Option.{option_map}
-use Rattle.std.specs.Result.{result_unwrap_or}
-use Rattle.hex.specs.Hex.{decode_sized}
-use Rattle.serde_json.specs.Data.{Data, Items, array, boolean, item, negative, no_items, number, string, unsigned}
-use Rattle.serde_json.specs.Find.{get}
-use Rattle.mum_state.proofs.Each.{Each}
-use Rattle.mum_document.specs.Fault.{Fault}
-use Rattle.mum_document.specs.Object.{elements_at}
-use Rattle.mum_document.specs.Value.{digest_fault, digest_of, elements_in, elements_of, flag_fault, flag_of, list_fault, name_fault, needed, number_fault, number_of, signed_fault, signed_of, text_fault, text_of, wanted}
-use Rattle.mum_config.proofs.Said.{not_against}
-use Rattle.mum_config_laws.specs.Values.{EachSays, HasItem, IsDigest, IsFlag, IsListOf, IsListed, IsNumber, IsSigned, IsText, Says, SaysMaybe, SaysOr}
+use Rattle.mum_config_laws.proofs.Common.{◌≡◌, ℕ, Bool, true, false, not, List, [], map, Option, None, Some, Result, Ok, Err, inl, inr, refl, sym, ap, subst, is_ok, unwrap_or, option_map, result_unwrap_or, decode_sized, Data, Items, array, boolean, item, negative, no_items, number, string, unsigned, get, Each, Fault, elements_at, digest_fault, digest_of, elements_in, elements_of, flag_fault, flag_of, list_fault, name_fault, needed, number_fault, number_of, signed_fault, signed_of, text_fault, text_of, wanted, not_against, EachSays, HasItem, IsDigest, IsFlag, IsListOf, IsListed, IsNumber, IsSigned, IsText, Says, SaysMaybe, SaysOr}
 use Rattle.mum_config_laws.proofs.Lists.{In}
 
 -- ---- single values

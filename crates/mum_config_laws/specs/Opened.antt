@@ -1,17 +1,12 @@
 -- The state with which a server begins: what its configuration gives is there, and nothing else.
 use Rattle.std.specs.Prelude.{◌≡◌, ◌≢◌, ◌⊎◌, ℕ, List, [], ◌∷◌, Some, Ok, codes, IsTrue}
 use Rattle.std.specs.List.{Contains}
-use Rattle.serde_json.specs.Data.{Data}
-use Rattle.serde_json.specs.Find.{get}
-use Rattle.serde_json.specs.Read.{read}
+use Rattle.serde_json.specs.{Data.Data, Find.get, Read.read}
 use Rattle.mum_base.specs.declared.number.ChannelId.{ChannelId}
 use Rattle.mum_tree.specs.declared.channel.Row.{Row}
 use Rattle.mum_tree.specs.State.{Pair, root_alone}
-use Rattle.mum_state.specs.declared.account.Account.{Account}
-use Rattle.mum_state.specs.declared.edit.Edit.TheVariants.{SetLimits}
-use Rattle.mum_state.specs.After.{led_to}
-use Rattle.mum_state.specs.Applied.{applied}
-use Rattle.mum_state.specs.Fits.{fits}
+use Rattle.mum_state.specs.declared.{account.Account.Account, edit.Edit.TheVariants.SetLimits}
+use Rattle.mum_state.specs.{After.led_to, Applied.applied, Fits.fits}
 use Rattle.mum_state.specs.State.{PolicyRow, StateValue, empty_state, open_policy}
 use Rattle.mum_config.specs.Document.{ReadsConfig}
 use Rattle.mum_config.specs.declared.config.Config.{Config}
@@ -22,13 +17,15 @@ use Rattle.mum_config_laws.specs.Values.{IsDigest, IsListed, IsNumber, IsText, S
 abbrev pub IsFirst : StateValue → Type 0
 IsFirst first =
     (first ≡ empty_state)
-    ⊎ ((sessions channels : ℕ) × IsTrue (fits empty_state (SetLimits sessions channels)) × (first ≡ applied empty_state (SetLimits sessions channels)))
+    ⊎ ((sessions channels : ℕ) × IsTrue (fits empty_state (SetLimits sessions channels))
+    × (first ≡ applied empty_state (SetLimits sessions channels)))
 
 -- this holds of each text that is read as a configuration: of the document that it is, of what was read, of a state that
 -- it is applied to, and of the state after that
 abbrev pub OfConfigurations : (Data → Config → StateValue → StateValue → Type 0) → Type 0
 OfConfigurations Holds =
-    (text : List ℕ) (document : Data) (config : Config) (first : StateValue) → ReadsConfig text (Ok config) → read text ≡ Some document
+    (text : List ℕ) (document : Data) (config : Config) (first : StateValue) → ReadsConfig text (Ok config)
+    → read text ≡ Some document
     → IsFirst first → Holds document config first (led_to first config.edits)
 
 -- ---- settings

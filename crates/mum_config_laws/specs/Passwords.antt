@@ -1,16 +1,13 @@
 -- A server password that is given is asked for.
 use Rattle.std.specs.Prelude.{◌≡◌, ◌≢◌, ◌⊎◌, ℕ, List, [], Option, Some, None, codes, unwrap_or}
+use Rattle.serde_json.specs.{Data.Data, Data.string, Find.get}
 use Rattle.sha2.specs.Sha256.{sha256}
-use Rattle.serde_json.specs.Data.{Data, string}
-use Rattle.serde_json.specs.Find.{get}
 use Rattle.mum_msg_state.specs.declared.authenticate.Authenticate.{Authenticate}
 use Rattle.mum_state.specs.State.{StateValue}
-use Rattle.mum_state.specs.declared.verdict.Verdict.{Verdict}
-use Rattle.mum_state.specs.declared.verdict.Verdict.TheVariants.{Ignored, Rejected}
+use Rattle.mum_state.specs.declared.verdict.Verdict.{Verdict, TheVariants.Ignored, TheVariants.Rejected}
 use Rattle.mum_rules_user.specs.Verdict.{user_verdict}
 use Rattle.mum_rules_user.specs.declared.message.UserMessage.TheVariants.{Join}
-use Rattle.mum_config_laws.specs.Opened.{OfConfigurations}
-use Rattle.mum_config_laws.specs.Values.{IsDigest, IsListed}
+use Rattle.mum_config_laws.specs.{Opened.OfConfigurations, Values.IsDigest, Values.IsListed}
 
 -- no account of the document has the name
 abbrev pub IsOfNoAccount : Data → List ℕ → Type 0

@@ -1,22 +1,5 @@
 -- Notices are for slots that have a box.
-use Rattle.std.proofs.Common.{◌≡◌, ℕ, zero, suc, ◌+◌, ◌<◌, ◌≤◌, Bool, true, false, cond, Option, Some, List, [], ◌∷◌, ◌++◌, length, inl, inr, sym, subst, arith}
-use Rattle.std.specs.Prelude.{find, slice_index_or}
-use Rattle.std.specs.List.{All, AllByRecursion, Contains}
-use Rattle.mum_base.specs.declared.number.SessionId.{SessionId}
-use Rattle.mum_base.specs.declared.number.Slot.{Slot}
-use Rattle.mum_base.specs.declared.number.TheConstants.{SLOTS}
-use Rattle.mum_users.specs.declared.user.User.{User}
-use Rattle.mum_users.specs.Proper.{SlotsRise}
-use Rattle.mum_users.specs.Sessions.{session_of}
-use Rattle.mum_users.specs.State.{has_number}
-use Rattle.mum_state.specs.declared.edit.Edit.{Edit}
-use Rattle.mum_state.specs.Proper.{IsProper}
-use Rattle.mum_state.specs.State.{StateValue}
-use Rattle.mum_notify.specs.declared.notice.Notice.{Notice}
-use Rattle.mum_notify.specs.Laws.{IsAddressee}
-use Rattle.mum_notify.specs.Notices.{notices}
-use Rattle.mum_notify.proofs.Told.{each_has_its_session_lem}
-use Rattle.mum_control.specs.Kept.{IsInSlot}
+use Rattle.mum_control.proofs.Common.{◌≡◌, ℕ, zero, suc, ◌+◌, ◌<◌, ◌≤◌, Bool, true, false, cond, Option, Some, List, [], ◌∷◌, ◌++◌, length, inl, inr, sym, subst, arith, find, slice_index_or, All, AllByRecursion, Contains, SessionId, Slot, SLOTS, User, SlotsRise, session_of, has_number, Edit, IsProper, StateValue, Notice, IsAddressee, notices, each_has_its_session_lem, IsInSlot}
 
 -- ---- a user's slot is below the limit
 
@@ -73,7 +56,7 @@ notices_in_slots before edit after first last =
     let low = addressee_in_slot before edit after told.0 first last told.1 in
     subst (λ (slot : Slot). slot.0 < SLOTS) (sym told.2.1) low)
 
--- ---- those behind others
+-- ---- those after others
 
 pub all_joined : (xs ys : List Notice) → AllByRecursion IsInSlot xs → AllByRecursion IsInSlot ys → AllByRecursion IsInSlot (xs ++ ys)
 all_joined [] ys all others = others

@@ -1,14 +1,5 @@
 -- What is known of a publisher once an edit is appended.
-use Rattle.std.proofs.Common.{◌≡◌, ◌∙◌, ◌+◌, List, [], ◌∷◌, ◌++◌, length, ap, subst, append-nil, append_assoc, length-append, arith}
-use Rattle.std.specs.Prelude.{IsTrue}
-use Rattle.mum_state.specs.declared.edit.Edit.{Edit}
-use Rattle.mum_state.specs.Applied.{applied}
-use Rattle.mum_state.specs.Fits.{fits}
-use Rattle.mum_state.specs.State.{StateValue}
-use Rattle.mum_history.specs.Twin.{LeadsTo}
-use Rattle.mum_published.specs.Calls.{IsLast, all_published, appended, latest, state_of}
-use Rattle.mum_published.specs.Facts.{PublisherFacts}
-use Rattle.mum_control.specs.Commanded.{with_edit}
+use Rattle.mum_control.proofs.Common.{◌≡◌, ◌∙◌, ◌+◌, List, [], ◌∷◌, ◌++◌, length, ap, subst, append-nil, append_assoc, length-append, arith, IsTrue, Edit, applied, fits, StateValue, LeadsTo, IsLast, all_published, appended, latest, state_of, PublisherFacts, with_edit}
 
 -- two lists of one element more that are equal end with the same one
 ends_so : (xs ys : List Edit) (x y : Edit) → xs ++ x ∷ [] ≡ ys ++ y ∷ [] → x ≡ y

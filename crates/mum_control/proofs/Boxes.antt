@@ -1,38 +1,27 @@
 -- Passes of boxes: how they are made, and how they are used at a place.
-use Rattle.std.proofs.Common.{◌≡◌, ◌∙◌, ℕ, ◌<◌, List, [], ◌∷◌, ◌++◌, length, map, None, refl, ap, sym, subst, append_assoc, arith}
-use Rattle.std.specs.Prelude.{slice_index_or, slice_set}
-use Rattle.std.specs.List.{AllByRecursion}
-use Rattle.std.proofs.lemmas.List.{length-map, map-append}
-use Rattle.std.proofs.lemmas.Option.{slice_get_read}
-use Rattle.mum_outbox.specs.declared.parcel.PostParcel.{PostParcel}
-use Rattle.mum_base.specs.declared.number.TheConstants.{POST_CAPACITY}
-use Rattle.mum_outbox.specs.declared.queue.Offered.{Offered}
-use Rattle.mum_outbox.specs.declared.rule.Tagged.{Tagged}
-use Rattle.mum_outbox.specs.Calls.{Offers, Takes, new_pass}
-use Rattle.mum_outbox.specs.Facts.{PassFacts, QueueFacts}
-use Rattle.mum_control.specs.Posting.{EmptiesAt, IsEmptied, OffersAt}
+use Rattle.mum_control.proofs.Common.{◌≡◌, ◌∙◌, ℕ, ◌<◌, List, [], ◌∷◌, ◌++◌, length, map, None, refl, ap, subst, append_assoc, slice_index_or, slice_set, length-map, slice_get_read, PostFacts, POST_CAPACITY, Offered, Tagged, Offers, Takes, new_pass, PassFacts, QueueFacts, EmptiesAt, IsEmptied, OffersAt}
 
 -- as many passes as boxes
-pub as_many : (posts : List (PassFacts PostParcel)) (queues : List QueueFacts) → posts ≡ map new_pass queues → length posts ≡ length queues
+pub as_many : (posts : List (PassFacts PostFacts)) (queues : List QueueFacts) → posts ≡ map new_pass queues → length posts ≡ length queues
 as_many posts queues same = ap length same ∙ length-map queues new_pass
 
 -- ---- a box that is emptied
 
-pub taken_more : (old pass after : PassFacts PostParcel) (taken : List (Tagged PostParcel)) (x : Tagged PostParcel)
+pub taken_more : (old pass after : PassFacts PostFacts) (taken : List (Tagged PostFacts)) (x : Tagged PostFacts)
     → pass ≡ record old { taken = old.taken ++ taken } → after ≡ record pass { taken = pass.taken ++ x ∷ [] }
     → after ≡ record old { taken = old.taken ++ (taken ++ x ∷ []) }
 taken_more old pass after taken x so_far takes =
-    takes ∙ ap (λ (p : PassFacts PostParcel). record p { taken = p.taken ++ x ∷ [] }) so_far
-    ∙ ap (λ (t : List (Tagged PostParcel)). record old { taken = t }) (append_assoc old.taken taken (x ∷ []))
+    takes ∙ ap (λ (p : PassFacts PostFacts). record p { taken = p.taken ++ x ∷ [] }) so_far
+    ∙ ap (λ (t : List (Tagged PostFacts)). record old { taken = t }) (append_assoc old.taken taken (x ∷ []))
 
-pub emptied_so : (old pass after : PassFacts PostParcel) (taken : List (Tagged PostParcel))
+pub emptied_so : (old pass after : PassFacts PostFacts) (taken : List (Tagged PostFacts))
     → pass ≡ record old { taken = old.taken ++ taken } → Takes POST_CAPACITY pass None after → IsEmptied old after
 emptied_so old pass after taken so_far takes =
-    record { taken = taken; last = subst (λ (p : PassFacts PostParcel). Takes POST_CAPACITY p None after) so_far takes }
+    record { taken = taken; last = subst (λ (p : PassFacts PostFacts). Takes POST_CAPACITY p None after) so_far takes }
 
 -- ---- the box at a place
 
-pub offered_at : (posts : List (PassFacts PostParcel)) (place : ℕ) (before later : PassFacts PostParcel) (parcel : PostParcel) (offered : Offered PostParcel)
+pub offered_at : (posts : List (PassFacts PostFacts)) (place : ℕ) (before later : PassFacts PostFacts) (parcel : PostFacts) (offered : Offered PostFacts)
     → place < length posts → before ≡ slice_index_or posts place before → Offers POST_CAPACITY before parcel offered later
     → OffersAt posts place parcel offered (slice_set posts place later)
 offered_at posts place before later parcel offered within is offers = record {
@@ -43,7 +32,7 @@ offered_at posts place before later parcel offered within is offers = record {
   others = refl;
 }
 
-pub emptied_at : (posts : List (PassFacts PostParcel)) (place : ℕ) (before later : PassFacts PostParcel)
+pub emptied_at : (posts : List (PassFacts PostFacts)) (place : ℕ) (before later : PassFacts PostFacts)
     → place < length posts → before ≡ slice_index_or posts place before → IsEmptied before later
     → EmptiesAt posts place (slice_set posts place later)
 emptied_at posts place before later within is emptied = record {

@@ -1,7 +1,5 @@
--- What is known behind a reference that there may be.
-use Rattle.std.proofs.Common.{◌≡◌, Option, Some, None, Bor, refl, subst}
-use Rattle.std.specs.Prelude.{IfSome, is_some}
-use Rattle.std.specs.Option.{option_copied}
+-- What is known after a reference that there may be.
+use Rattle.mum_control.proofs.Common.{◌≡◌, Option, Some, None, Bor, refl, subst, IfSome, is_some, option_copied}
 
 -- it is known of its copy
 pub copied : {A : Type 0} (P : A → Type 0) (found : Option (Bor A)) (x : A) → IfSome found (λ r. P r.now) → option_copied found ≡ Some x → P x

@@ -1,18 +1,5 @@
 -- Sessions that are listed: each once, and no more than there are in the state.
-use Rattle.std.proofs.Common.{◌≡◌, ℕ, ◌+◌, ◌<◌, ◌≤◌, ◌||◌, ◌&&◌, Bool, true, false, cond, not, List, [], ◌∷◌, ◌++◌, length, Some, refl, ap, sym, subst, ◌∙◌, arith, length-append}
-use Rattle.std.specs.Prelude.{◌==◌, filter, find, is_some, IsTrue}
-use Rattle.std.specs.List.{AllByRecursion}
-use Rattle.std.proofs.lemmas.Bool.{and_parts, eqb-true, eqb-false, ne_eqb}
-use Rattle.std.proofs.lemmas.List.Filters.{length-filter_both}
-use Rattle.mum_base.specs.declared.number.SessionId.{SessionId}
-use Rattle.mum_base.specs.declared.number.TheConstants.{SLOTS}
-use Rattle.mum_users.specs.declared.user.User.{User}
-use Rattle.mum_users.specs.Proper.{SlotsRise}
-use Rattle.mum_users.specs.State.{has_number}
-use Rattle.mum_state.specs.Proper.{IsProper}
-use Rattle.mum_state.specs.State.{StateValue}
-use Rattle.mum_control.specs.Kept.{AreApart, IsListing, is_listed, is_there}
-use Rattle.mum_control.specs.Posting.{with_lagging}
+use Rattle.mum_control.proofs.Common.{◌≡◌, ℕ, ◌+◌, ◌<◌, ◌≤◌, ◌||◌, ◌&&◌, Bool, true, false, cond, not, List, [], ◌∷◌, ◌++◌, length, Some, refl, ap, sym, subst, ◌∙◌, arith, length-append, ◌==◌, filter, find, is_some, IsTrue, AllByRecursion, and_parts, eqb-true, eqb-false, ne_eqb, length-filter_both, SessionId, SLOTS, User, SlotsRise, has_number, IsProper, StateValue, AreApart, IsListing, is_listed, is_there, with_lagging}
 
 -- ---- two tests of which neither holds
 

@@ -1,23 +1,5 @@
 -- What verdicts, publishes and replies come to.
-use Rattle.std.proofs.Common.{◌≡◌, ℕ, Bool, true, false, not, List, [], Option, Some, None, Result, Ok, Err, IfOk, OnErr, OnOk, refl, ap, sym, subst, ◌∙◌, inl, inr}
-use Rattle.std.specs.Prelude.{◌⊎◌, IsTrue, is_none, is_some}
-use Rattle.std.specs.Result.{result_ok}
-use Rattle.mum_base.specs.declared.number.SessionId.{SessionId}
-use Rattle.mum_base.specs.declared.reply.ReplyEnd.{ReplyEnd}
-use Rattle.mum_state.specs.declared.edit.Edit.{Edit}
-use Rattle.mum_state.specs.declared.verdict.Verdict.{Verdict}
-use Rattle.mum_state.specs.declared.verdict.Verdict.TheVariants.{Accepted, Lacks, Refused, Rejected, Answer, Ignored}
-use Rattle.mum_notify.specs.declared.notice.Notice.{Notice}
-use Rattle.mum_published.specs.Calls.{all_published}
-use Rattle.mum_published.specs.declared.roll.Login.{Login}
-use Rattle.mum_published.specs.Facts.{NoteFacts, PublisherFacts, ReplyFacts}
-use Rattle.mum_published.specs.Rolls.{is_admitted}
-use Rattle.mum_session.specs.Reply.{mark, reply_end}
-use Rattle.mum_session.specs.Verdict.{edits_of}
-use Rattle.mum_control.specs.Commanded.{Accepts, accepted, Decides, Denies, IsDropped, Publishes, note_of, with_accepted, with_edit, with_login}
-use Rattle.mum_control.specs.Facts.{ControlFacts}
-use Rattle.mum_control.specs.Posting.{Posts}
-use Rattle.mum_control.specs.declared.posted.Posted.{Posted}
+use Rattle.mum_control.proofs.Common.{◌≡◌, ℕ, Bool, true, false, not, List, [], Option, Some, None, Result, Ok, Err, IfOk, OnErr, OnOk, refl, ap, sym, subst, ◌∙◌, inl, inr, ◌⊎◌, IsTrue, is_none, is_some, result_ok, SessionId, ReplyEnd, Edit, Verdict, Accepted, Lacks, Refused, Rejected, Answer, Ignored, Notice, all_published, Login, NoteFacts, PublisherFacts, ReplyFacts, is_admitted, mark, reply_end, edits_of, Accepts, accepted, Decides, Denies, IsDropped, Publishes, note_of, with_accepted, with_edit, with_login, ControlFacts, Posts, Posted}
 
 -- ---- a verdict that accepts no edit
 
@@ -40,7 +22,7 @@ denied_so old connection session (Rejected kind) reply new none so = so
 denied_so old connection session (Answer frame) reply new none so = so
 denied_so old connection session (Ignored why) reply new none so = so
 
--- its end tells of no login
+-- its end reports no login
 pub denied_admits_none : (denied : Verdict) (connection : ℕ) (roll : List Login) → edits_of denied ≡ [] → IsTrue (is_admitted (reply_end denied) connection roll)
 denied_admits_none (Accepted edit) connection roll none = cc
 denied_admits_none (Lacks perm channel) connection roll none = refl

@@ -1,22 +1,15 @@
 -- What a command changes, and what its sender is answered.
 use Rattle.std.specs.Prelude.{◌≡◌, ℕ, ◌+◌, ◌⊎◌, true, false, [], ◌∷◌, ◌++◌, length, filter, is_none, Option, Some, None}
-use Rattle.mum_base.specs.declared.number.SessionId.{SessionId}
-use Rattle.mum_base.specs.declared.reply.ReplyEnd.{ReplyEnd}
-use Rattle.mum_base.specs.declared.reply.ReplyEnd.TheVariants as ends
-use Rattle.mum_state.specs.declared.edit.Edit.{Edit}
-use Rattle.mum_state.specs.declared.verdict.Verdict.{Verdict}
-use Rattle.mum_state.specs.declared.verdict.Verdict.TheVariants.{Accepted}
-use Rattle.mum_state.specs.Applied.{applied}
-use Rattle.mum_state.specs.State.{StateValue}
-use Rattle.mum_notify.specs.Notices.{notices}
+use Rattle.mum_base.specs.declared.{number.SessionId.SessionId, reply.ReplyEnd.ReplyEnd}
+use Rattle.mum_state.specs.declared.{edit.Edit.Edit, verdict.Verdict.Verdict, verdict.Verdict.TheVariants.Accepted}
+use Rattle.mum_state.specs.{Applied.applied, State.StateValue}
 use Rattle.mum_published.specs.Calls.{all_published, appended, latest}
-use Rattle.mum_published.specs.Facts.{NoteFacts, PublisherFacts, ReplyFacts}
-use Rattle.mum_published.specs.Rolls.{login_of}
+use Rattle.mum_published.specs.{Facts.NoteFacts, Facts.PublisherFacts, Facts.ReplyFacts, Rolls.login_of}
+use Rattle.mum_notify.specs.Notices.{notices}
 use Rattle.mum_session.specs.declared.command.Command.{Command}
-use Rattle.mum_session.specs.Reply.{mark, reply_end, wire}
-use Rattle.mum_session.specs.Verdict.{verdict}
-use Rattle.mum_control.specs.Facts.{ControlFacts}
-use Rattle.mum_control.specs.Kept.{is_there}
+use Rattle.mum_session.specs.{Reply.mark, Reply.reply_end, Reply.wire, Verdict.verdict}
+use Rattle.mum_control.specs.{Facts.ControlFacts, Kept.is_there}
+use Rattle.mum_base.specs.declared.reply.ReplyEnd.TheVariants as ends
 
 -- the state after all accepted edits
 abbrev pub current : ControlFacts → StateValue
@@ -26,7 +19,7 @@ current control = latest control.publisher
 abbrev pub with_edit : PublisherFacts → Edit → PublisherFacts
 with_edit publisher edit = record publisher { pending = publisher.pending ++ edit ∷ [] }
 
--- the publisher with the login on its roll that a reply to this connection with this end tells of, if it tells of one
+-- the publisher with the login on its roll that a reply to this connection with this end reports, if it reports one
 abbrev pub with_login : PublisherFacts → ℕ → ReplyEnd → PublisherFacts
 with_login publisher connection end = record publisher { roll = publisher.roll ++ login_of connection end }
 
@@ -60,7 +53,8 @@ accepted control edit = record {
 }
 
 -- the edit is accepted, and with it its login. The reply has the note of its publish, or says that memory ran out
-pub record Accepts (old : ControlFacts) (connection : ℕ) (edit : Edit) (reply : ReplyFacts) (new : ControlFacts) : Type 0 where
+pub record Accepts (old : ControlFacts) (connection : ℕ) (edit : Edit) (reply : ReplyFacts)
+    (new : ControlFacts) : Type 0 where
   pub published : Publishes (with_accepted old.publisher connection edit) reply.note new.publisher
   pub others : new ≡ record (accepted old edit) { publisher = new.publisher }
   pub answer : reply ≡ record {

@@ -1,21 +1,15 @@
 -- What the control owner keeps true of its parts.
 use Rattle.std.specs.Prelude.{◌≡◌, ℕ, ◌<◌, ◌≤◌, ◌==◌, not, Bool, List, [], ◌∷◌, length, Option, is_some, IsSomeAnd, IsTrue, ⊤}
-use Rattle.std.specs.List.{AllByRecursion, list_any}
-use Rattle.std.specs.Option.{option_map}
-use Rattle.mum_base.specs.declared.number.ChannelId.{ChannelId}
-use Rattle.mum_base.specs.declared.number.SessionId.{SessionId}
-use Rattle.mum_base.specs.declared.number.Slot.{Slot}
-use Rattle.mum_base.specs.declared.number.TheConstants.{SLOTS}
+use Rattle.std.specs.{List.AllByRecursion, List.list_any, Option.option_map}
+use Rattle.mum_base.specs.declared.number.{ChannelId.ChannelId, SessionId.SessionId, Slot.Slot, TheConstants.SLOTS}
 use Rattle.mum_base.specs.declared.perm.Perm.{Perm}
 use Rattle.mum_base.specs.Perm.{Holds}
 use Rattle.mum_users.specs.Sessions.{next_join, session_of}
-use Rattle.mum_state.specs.Permissions.{perm_of}
-use Rattle.mum_state.specs.State.{StateValue}
-use Rattle.mum_notify.specs.declared.notice.Notice.{Notice}
-use Rattle.mum_outbox.specs.declared.parcel.PostParcel.{PostParcel}
 use Rattle.mum_outbox.specs.Facts.{PassFacts as BoxFacts}
-use Rattle.mum_published.specs.Calls.{latest}
-use Rattle.mum_published.specs.Facts.{Opening, PublisherFacts}
+use Rattle.mum_state.specs.{Permissions.perm_of, State.StateValue}
+use Rattle.mum_published.specs.{Calls.appended, Calls.latest, Facts.Opening, Facts.PublisherFacts}
+use Rattle.mum_notify.specs.declared.notice.Notice.{Notice}
+use Rattle.mum_parcel.specs.{Facts.PostFacts, Rules.Reports}
 
 -- the session is in the state
 abbrev pub is_there : StateValue → SessionId → Bool
@@ -51,11 +45,12 @@ pub record IsListing (state : StateValue) (sessions : List SessionId) : Type 0 w
 abbrev pub IsInSlot : Notice → Type 0
 IsInSlot notice = notice.slot.0 < SLOTS
 
--- each pending notice has a box, and there is room to list each session
-pub record IsKept (opening : Opening) (publisher : PublisherFacts) (posts : List (BoxFacts PostParcel))
+-- each pending notice has a box and reports an accepted edit, and there is room to list each session
+pub record IsKept (opening : Opening) (publisher : PublisherFacts) (posts : List (BoxFacts PostFacts))
     (pending : List Notice) (lagged : List SessionId) (room : ℕ) : Type 0 where
   pub same_opening : publisher.opening ≡ opening
   pub box_each : length posts ≡ SLOTS
   pub in_slots : AllByRecursion IsInSlot pending
+  pub of_edits : AllByRecursion (Reports opening (appended publisher)) pending
   pub listing : IsListing (latest publisher) lagged
   pub room_is : SLOTS ≤ room

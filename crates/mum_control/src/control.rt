@@ -1,6 +1,6 @@
 //! The control owner.
 
-ghost use Rattle.std.specs.Prelude.{◌≡◌, ◌↔◌, ◌<◌, ◌⊎◌, ◌∷◌, [], IfErr, IfOk, IsTrue, MatchOption, OnErr, OnOk, is_none, length, map};
+ghost use Rattle.std.specs.Prelude.{◌≡◌, ◌≢◌, ◌↔◌, ◌<◌, ◌⊎◌, ◌∷◌, [], IfErr, IfOk, IsTrue, MatchOption, OnErr, OnOk, is_none, length, map};
 ghost use Rattle.std.specs.List.{AllByRecursion};
 ghost use Rattle.std.specs.Vec.{vec_capacity};
 ghost use mathlib.Core.List.{IsPrefix};
@@ -12,11 +12,13 @@ ghost use Rattle.mum_rules_tree.specs.Decision.{FitsWhereAccepted};
 ghost use Rattle.mum_session.specs.Reply.{reply_end};
 ghost use Rattle.mum_session.specs.Verdict.{edits_of, verdict};
 ghost use Rattle.mum_outbox.specs.Calls.{new_pass};
-ghost use Rattle.mum_published.specs.Calls.{all_published, latest};
+ghost use Rattle.mum_published.specs.Calls.{all_published, appended, latest, note_published};
 ghost use Rattle.mum_published.specs.Rolls.{is_admitted};
 ghost use Rattle.mum_control.specs.Commanded.{Accepts, Commanded, Decides, Denies, IsDropped, Publishes, accepted, current, note_of, with_login};
 ghost use Rattle.mum_control.specs.Kept.{IsInSlot, MayIn, is_there, next_slot, slot_of};
-ghost use Rattle.mum_control.specs.Posting.{EmptiesPost, IsOpened, Posts, PostsNext};
+ghost use Rattle.mum_control.specs.Posting.{EmptiesPost, IsOpened, Posts, PostsNext, due_notices};
+ghost use Rattle.mum_parcel.specs.Rules.{Reports};
+ghost use Rattle.std.specs.Option.{ForSome};
 ghost use Rattle.mum_state.specs.declared.verdict.Verdict.TheVariants.{Accepted};
 
 use crate::edits::Edits;
@@ -28,7 +30,8 @@ use crate::sessions::{is_there, next_slot, slot_of};
 use mum_base::{ChannelId, Mark, Octets, OutOfMemory, Perm, ReplyEnd, SLOTS, SessionId, Slot};
 use mum_history::EditList;
 use mum_notify::{Notice, NoticeQueue, accept_edit};
-use mum_outbox::{Offered, PostBox, PostParcel};
+use mum_outbox::Offered;
+use mum_parcel::{PostBox, PostParcel};
 use mum_published::{Naming, Note, Pass, Publisher, Reply, Roll};
 use mum_session::{Asked, Command, decide, end_of, mark_of, wire_of};
 use mum_state::{Edit, State, Verdict};
@@ -43,7 +46,7 @@ use std::sync::Wait;
 pub struct Control<'a, N: Naming> {
     edits: Edits<'a>,
     // By their slots.
-    posts: Vec<Post>,
+    posts: Vec<Post<N>>,
     pending: NoticeQueue,
     // It has room for a session of each slot.
     lagged: Vec<SessionId>,
@@ -84,7 +87,7 @@ fn no_bytes(alloc: Global) -> Octets
     Octets::from_vec(Vec::new(alloc))
 }
 
-/// The edit of a verdict that accepts one; any other verdict comes back.
+// The edit of a verdict that accepts one; any other verdict comes back.
 fn accepted_edit(verdict: Verdict) -> Result<Edit, Verdict>
     ensures edit { IfOk result (λ edit. verdict ≡ Accepted edit) }
     ensures others { IfErr result (λ denied. (verdict ≡ denied) × (edits_of denied ≡ [])) }
@@ -95,8 +98,11 @@ fn accepted_edit(verdict: Verdict) -> Result<Edit, Verdict>
     }
 }
 
-/// An empty list with room for a session of each slot, and a pass of each box.
-fn room_of(alloc: Global, boxes: Vec<PostBox>) -> Result<(Vec<SessionId>, Vec<Post>), OutOfMemory>
+// An empty list with room for a session of each slot, and a pass of each box.
+fn room_of<N: Naming>(
+    alloc: Global,
+    boxes: Vec<PostBox<N>>,
+) -> Result<(Vec<SessionId>, Vec<Post<N>>), OutOfMemory>
     ensures nobody { IfOk result (λ made. made.0.items ≡ []) }
     ensures room { IfOk result (λ made. vec_capacity made.0 ≡ SLOTS) }
     ensures boxes { IfOk result (λ made. made.1.items ≡ map new_pass boxes.items) }
@@ -119,7 +125,7 @@ impl<'a, N: Naming> Control<'a, N> {
         alloc: Global,
         state: State,
         publisher: &'a mut Publisher,
-        posts: Vec<PostBox>,
+        posts: Vec<PostBox<N>>,
     ) -> Result<Control<'a, N>, OutOfMemory>
         requires opening { publisher.old.opening ≡ N.opening }
         requires state { state ≡ latest publisher.old }
@@ -211,7 +217,7 @@ impl<'a, N: Naming> Control<'a, N> {
         next_slot(self.edits.latest())
     }
 
-    /// What is decided of a command.
+    // What is decided of a command.
     fn decide(&self, session: Option<SessionId>, what: &Asked) -> Result<Verdict, OutOfMemory>
         ensures verdict { IfOk result (λ decided. decided ≡ verdict (current self.now) session what.now) }
         ensures fits { IfOk result (FitsWhereAccepted (current self.now)) }
@@ -220,7 +226,7 @@ impl<'a, N: Naming> Control<'a, N> {
         decide(self.alloc, self.edits.latest(), session, what)
     }
 
-    /// Memory ran out before the command changed anything.
+    // Memory ran out before the command changed anything.
     fn refuse(&mut self, connection: u32) -> Reply<N>
         ensures { IsDropped self.old connection result self.new }
     {
@@ -230,7 +236,7 @@ impl<'a, N: Naming> Control<'a, N> {
         Reply::new(connection, ReplyEnd::Decided, None, wire, true, roll)
     }
 
-    /// Answers a command that is denied, answered or ignored.
+    // Answers a command that is denied, answered or ignored.
     fn deny(&mut self, connection: u32, session: Option<SessionId>, denied: Verdict) -> Reply<N>
         requires { edits_of denied ≡ [] }
         ensures { IsDropped self.old connection result self.new
@@ -249,7 +255,7 @@ impl<'a, N: Naming> Control<'a, N> {
         }
     }
 
-    /// Appends an edit, with the notices that report it.
+    // Appends an edit, with the notices that report it.
     fn append(&mut self, edit: Edit) -> Result<(), OutOfMemory>
         requires fits { IsTrue (fits (current self.old) edit) }
         requires frame { FitsFrame edit }
@@ -266,7 +272,7 @@ impl<'a, N: Naming> Control<'a, N> {
         Ok(())
     }
 
-    /// Puts the login that a reply with this end tells of on the roll, if it tells of one.
+    // Puts the login that a reply with this end reports on the roll, if it reports one.
     fn admit<R: Wait>(&mut self, rt: &R, connection: u32, end: ReplyEnd)
         ensures login { self.new ≡ record self.old { publisher = with_login self.old.publisher connection end } }
         ensures admitted { IsTrue (is_admitted end connection self.new.publisher.roll) }
@@ -274,7 +280,7 @@ impl<'a, N: Naming> Control<'a, N> {
         self.edits.admit(rt, connection, end);
     }
 
-    /// Publishes what is appended, and answers the command that was accepted last.
+    // Publishes what is appended, and answers the command that was accepted last.
     fn answer<R: Wait>(&mut self, rt: &R, connection: u32, end: ReplyEnd) -> Reply<N>
         requires { IsTrue (is_admitted end connection self.old.publisher.roll) }
         ensures published { Publishes self.old.publisher result.note self.new.publisher }
@@ -292,7 +298,7 @@ impl<'a, N: Naming> Control<'a, N> {
         Reply::new(connection, end, note, wire, no_memory, roll)
     }
 
-    /// Accepts an edit, and answers its command.
+    // Accepts an edit, and answers its command.
     fn accept<R: Wait>(&mut self, rt: &R, connection: u32, end: ReplyEnd, edit: Edit) -> Reply<N>
         requires fits { IsTrue (fits (current self.old) edit) }
         requires frame { FitsFrame edit }
@@ -309,7 +315,7 @@ impl<'a, N: Naming> Control<'a, N> {
         }
     }
 
-    /// Does what was decided of a command.
+    // Does what was decided of a command.
     fn settle<R: Wait>(
         &mut self,
         rt: &R,
@@ -371,18 +377,31 @@ impl<'a, N: Naming> Control<'a, N> {
         self.edits.has_shown(rt, pass);
     }
 
-    /// Takes the first pending notice. It has a box.
+    // Takes the first pending notice. It has a box, and reports an accepted edit.
     fn take_notice(&mut self) -> Option<Notice>
         ensures { MatchOption result ((self.old.pending ≡ []) × (self.new ≡ self.old))
-            (λ notice. (self.old.pending ≡ notice ∷ self.new.pending) × (self.new ≡ record self.old { pending = self.new.pending })
-            × IsInSlot notice) }
+            (λ notice. (self.old.pending ≡ notice ∷ self.new.pending)
+            × (self.new ≡ record self.old { pending = self.new.pending })
+            × IsInSlot notice × Reports N.opening (appended self.old.publisher) notice) }
     {
         self.pending.take_front()
     }
 
-    /// Posts a notice that was pending.
-    fn post<R: Wait>(&mut self, rt: &R, notice: Notice) -> Posted
-        requires { notice.slot.0 < SLOTS }
+    // That all accepted edits are published, where they are.
+    fn shown(&self) -> Option<Note>
+        ensures note { MatchOption result (self.now.publisher.pending ≢ [])
+            (λ note. (self.now.publisher.pending ≡ []) × (note ≡ note_published self.now.publisher)) }
+        ensures named { ForSome result (λ note. note.book ≡ N.opening.book) }
+    {
+        self.edits.shown()
+    }
+
+    // Posts a notice that was pending, with the note of all that is published.
+    fn post<R: Wait>(&mut self, rt: &R, notice: Notice, note: Note) -> Posted
+        requires slot { notice.slot.0 < SLOTS }
+        requires note { note ≡ note_published self.old.publisher }
+        requires named { note.book ≡ N.opening.book }
+        requires reports { Reports N.opening note.edits notice }
         ensures { Posts self.old notice self.old.pending result self.new }
     {
         let Notice {
@@ -391,7 +410,13 @@ impl<'a, N: Naming> Control<'a, N> {
             bytes,
             last,
         } = notice;
-        let parcel = PostParcel { to, bytes, last };
+        let parcel = PostParcel {
+            to,
+            bytes,
+            last,
+            note,
+            of: PhantomData,
+        };
         let place = usize::from(slot.0);
         match offer_at(rt, &mut self.posts, place, parcel) {
             Offered::Sent => Posted::Posted(to),
@@ -402,12 +427,16 @@ impl<'a, N: Naming> Control<'a, N> {
         }
     }
 
-    /// Takes the first pending notice, and offers it once to the box of its slot. It takes no memory.
+    /// Takes the first pending notice, and offers it once to the box of its slot, with the note of all accepted edits.
+    /// While one of these is not published nothing is posted. It takes no memory.
     pub fn post_next<R: Wait>(&mut self, rt: &R) -> Posted
-        ensures { PostsNext self.old self.old.pending result self.new }
+        ensures { PostsNext self.old (due_notices self.old) result self.new }
     {
+        let Some(note) = self.shown() else {
+            return Posted::None;
+        };
         match self.take_notice() {
-            Some(notice) => self.post(rt, notice),
+            Some(notice) => self.post(rt, notice, note),
             None => Posted::None,
         }
     }

@@ -25,7 +25,7 @@ fn is_to_list(sessions: &[SessionId], state: &State, session: SessionId) -> bool
     is_there(state, session) && !is_listed(sessions, session)
 }
 
-/// Lists a session, once, while it is in the state. It takes no memory.
+// Lists a session, once, while it is in the state. It takes no memory.
 pub(crate) fn list_lagging(sessions: &mut Vec<SessionId>, state: &State, session: SessionId)
     requires room { SLOTS ≤ vec_capacity sessions.old }
     requires listing { IsListing state.now sessions.old.items }
@@ -39,7 +39,7 @@ pub(crate) fn list_lagging(sessions: &mut Vec<SessionId>, state: &State, session
     sessions.push_reserved(session);
 }
 
-/// Leaves out the sessions that are not in the state.
+// Leaves out the sessions that are not in the state.
 pub(crate) fn keep_present(sessions: &mut Vec<SessionId>, state: &State)
     ensures items { sessions.new.items ≡ filter (is_there state.now) sessions.old.items }
     ensures room { vec_capacity sessions.new ≡ vec_capacity sessions.old }

@@ -26,7 +26,7 @@ fn counted<L: Ledger>(
     state.permissions_of(session, channel, &mut steps)
 }
 
-/// Whether a session has this permission in a channel; not where one of the two is not in the state.
+// Whether a session has this permission in a channel; not where one of the two is not in the state.
 pub(crate) fn holds(state: &State, session: SessionId, perm: Perm, channel: ChannelId) -> bool
     ensures { IsTrue result ↔ MayIn state.now session perm channel }
 {

@@ -6,32 +6,34 @@ ghost use Rattle.mum_base.specs.declared.number.TheConstants.{POST_CAPACITY};
 ghost use Rattle.mum_control.specs.Posting.{EmptiesAt, IsEmptied, OffersAt};
 
 use mum_base::OutOfMemory;
-use mum_outbox::{BoxPass, Offered, PostBox, PostParcel};
+use mum_outbox::{BoxPass, Offered};
+use mum_parcel::{PostBox, PostParcel};
+use mum_published::Naming;
 use std::alloc::Global;
 use std::marker::Model;
 use std::sync::Wait;
 
-/// The box of one slot, and the pass by which the control owner offers to it.
+// The box of one slot, and the pass by which the control owner offers to it.
 #[derive(Drop)]
-pub(crate) struct Post {
-    queue: PostBox,
-    pass: BoxPass<PostParcel>,
+pub(crate) struct Post<N: Naming> {
+    queue: PostBox<N>,
+    pass: BoxPass<PostParcel<N>>,
 }
 
-impl Model for Post {
+impl<N: Naming> Model for Post<N> {
     ghost use Rattle.std.specs.Prelude.{◌≡◌};
-    ghost use Rattle.mum_outbox.specs.declared.parcel.PostParcel.{PostParcel};
+    ghost use Rattle.mum_parcel.specs.Facts.{PostFacts};
     ghost use Rattle.mum_outbox.specs.Facts.{PassFacts};
 
-    ghost Value = { PassFacts PostParcel };
+    ghost Value = { PassFacts PostFacts };
 
     ghost view = { λ p. p.pass };
 
     ghost invariant = { λ p. p.pass.queue ≡ p.queue.queue };
 }
 
-/// Takes parcels from a box until it is empty.
-fn empty_queue<R: Wait>(rt: &R, queue: &PostBox, pass: &mut BoxPass<PostParcel>)
+// Takes parcels from a box until it is empty.
+fn empty_queue<N: Naming, R: Wait>(rt: &R, queue: &PostBox<N>, pass: &mut BoxPass<PostParcel<N>>)
     requires { pass.old.queue ≡ queue.now.queue }
     ensures { IsEmptied pass.old pass.new }
 {
@@ -43,9 +45,9 @@ fn empty_queue<R: Wait>(rt: &R, queue: &PostBox, pass: &mut BoxPass<PostParcel>)
     unreachable!()
 }
 
-impl Post {
-    /// A pass of this box.
-    fn of(queue: PostBox) -> Post
+impl<N: Naming> Post<N> {
+    // A pass of this box.
+    fn of(queue: PostBox<N>) -> Post<N>
         ensures { result ≡ new_pass queue }
     {
         let mut queue = queue;
@@ -53,14 +55,14 @@ impl Post {
         Post { queue, pass }
     }
 
-    /// Offers a parcel once.
-    fn offer<R: Wait>(&mut self, rt: &R, parcel: PostParcel) -> Offered<PostParcel>
+    // Offers a parcel once.
+    fn offer<R: Wait>(&mut self, rt: &R, parcel: PostParcel<N>) -> Offered<PostParcel<N>>
         ensures { Offers POST_CAPACITY self.old parcel result self.new }
     {
         self.queue.offer_as(rt, &mut self.pass, parcel)
     }
 
-    /// Takes parcels until the box is empty.
+    // Takes parcels until the box is empty.
     fn empty<R: Wait>(&mut self, rt: &R)
         ensures { IsEmptied self.old self.new }
     {
@@ -68,8 +70,11 @@ impl Post {
     }
 }
 
-/// A pass of each box, in their order.
-pub(crate) fn posts_of(alloc: Global, boxes: Vec<PostBox>) -> Result<Vec<Post>, OutOfMemory>
+// A pass of each box, in their order.
+pub(crate) fn posts_of<N: Naming>(
+    alloc: Global,
+    boxes: Vec<PostBox<N>>,
+) -> Result<Vec<Post<N>>, OutOfMemory>
     ensures { IfOk result (λ posts. posts.items ≡ map new_pass boxes.items) }
 {
     let mut posts = Vec::new(alloc);
@@ -79,13 +84,13 @@ pub(crate) fn posts_of(alloc: Global, boxes: Vec<PostBox>) -> Result<Vec<Post>, 
     Ok(posts)
 }
 
-/// Offers a parcel once to the box at this place.
-pub(crate) fn offer_at<R: Wait>(
+// Offers a parcel once to the box at this place.
+pub(crate) fn offer_at<N: Naming, R: Wait>(
     rt: &R,
-    posts: &mut Vec<Post>,
+    posts: &mut Vec<Post<N>>,
     place: usize,
-    parcel: PostParcel,
-) -> Offered<PostParcel>
+    parcel: PostParcel<N>,
+) -> Offered<PostParcel<N>>
     requires { place < length posts.old.items }
     ensures { OffersAt posts.old.items place parcel result posts.new.items }
 {
@@ -95,8 +100,8 @@ pub(crate) fn offer_at<R: Wait>(
     post.offer(rt, parcel)
 }
 
-/// Takes parcels from the box at this place until it is empty.
-pub(crate) fn empty_at<R: Wait>(rt: &R, posts: &mut Vec<Post>, place: usize)
+// Takes parcels from the box at this place until it is empty.
+pub(crate) fn empty_at<N: Naming, R: Wait>(rt: &R, posts: &mut Vec<Post<N>>, place: usize)
     requires { place < length posts.old.items }
     ensures { EmptiesAt posts.old.items place posts.new.items }
 {

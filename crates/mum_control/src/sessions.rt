@@ -8,7 +8,7 @@ ghost use Rattle.mum_control.specs.Kept.{is_there, next_slot, slot_of};
 use mum_base::{SessionId, Slot};
 use mum_state::State;
 
-/// Whether a session is in the state.
+// Whether a session is in the state.
 pub(crate) fn is_there(state: &State, session: SessionId) -> bool
     ensures there { result ≡ is_there state.now session }
     ensures proper { IsProper state.now }
@@ -17,7 +17,7 @@ pub(crate) fn is_there(state: &State, session: SessionId) -> bool
     roster.session(session).is_some()
 }
 
-/// The slot of a session.
+// The slot of a session.
 pub(crate) fn slot_of(state: &State, session: SessionId) -> Option<Slot>
     ensures slot { result ≡ slot_of state.now session }
     ensures below { IfSome result (λ slot. slot.0 < SLOTS) }
@@ -29,7 +29,7 @@ pub(crate) fn slot_of(state: &State, session: SessionId) -> Option<Slot>
     }
 }
 
-/// The slot that the next session that joins gets; none where no more may join.
+// The slot that the next session that joins gets; none where no more may join.
 pub(crate) fn next_slot(state: &State) -> Option<Slot>
     ensures { result ≡ next_slot state.now }
 {

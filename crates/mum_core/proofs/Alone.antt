@@ -1,27 +1,6 @@
--- A connection that is alone in its slot is told all that leaves the slot's outbox for its session.
-use Rattle.std.proofs.Common.{◌≡◌, ℕ, ◌-◌, Bool, true, false, cond, List, [], ◌∷◌, ◌++◌, take, Option, Some, None, refl, sym, ap, ◌∙◌, inl, inr}
-use Rattle.std.specs.Prelude.{◌⊎◌, filter, ◌==◌}
-use Rattle.std.specs.List.{AllByRecursion}
-use Rattle.std.proofs.lemmas.Bool.{cases_eq, eq-eqb, eqb-true}
-use Rattle.std.proofs.lemmas.Option.{same_Some}
-use Rattle.mum_state.specs.Proper.{IsProper}
-use Rattle.mum_state.specs.State.{StateValue}
-use Rattle.mum_core.specs.declared.connection.Connection.{Connection}
-use Rattle.mum_core.specs.declared.connection.Seat.{Seat}
-use Rattle.mum_core.specs.declared.outbox.Parcel.{Parcel}
-use Rattle.mum_record.specs.declared.head.Version.{Version}
-use Rattle.mum_record.specs.declared.step.Step.{Step}
-use Rattle.mum_record.specs.declared.step.Step.TheVariants.{Drain}
-use Rattle.mum_core.specs.Core.{CoreState, start, connection_at, outbox_at, state_at}
-use Rattle.mum_core.specs.Laws.{IsRun, front, front_for, gathered, heard, own_front, ran, removed}
-use Rattle.mum_core.specs.Step.{does}
-use Rattle.mum_core.proofs.Arrivals.{seats_present}
-use Rattle.mum_core.proofs.Copies.{AllLooked, looks_before}
-use Rattle.mum_core.proofs.Fitted.{lawful_all, lawful_start}
-use Rattle.mum_core.proofs.Orders.{Fits, fits_start, fits_step, looks_fit}
-use Rattle.mum_core.proofs.Places.{conn, placed}
-use Rattle.mum_core.proofs.Settled.{AreSettled, seat_on, seat_placed, settled_start, settled_step}
-use Rattle.mum_core.proofs.Told.{own_is_removed}
+-- A connection that is alone in its slot is sent all that leaves the slot's outbox for its session.
+use Rattle.mum_core.proofs.Common.{◌≡◌, ℕ, ◌-◌, Bool, true, false, cond, List, [], ◌∷◌, ◌++◌, take, Option, Some, None, refl, sym, ap, ◌∙◌, inl, inr, ◌⊎◌, filter, ◌==◌, AllByRecursion, cases_eq, eq-eqb, eqb-true, same_Some, IsProper, StateValue, Connection, Seat, Parcel, Version, Step, Drain, CoreState, start, connection_at, outbox_at, state_at, IsRun, front, front_for, gathered, heard, own_front, ran, removed, does}
+use Rattle.mum_core.proofs.{Arrivals.seats_present, Copies.AllLooked, Copies.looks_before, Fitted.lawful_all, Fitted.lawful_start, Orders.Fits, Orders.fits_start, Orders.fits_step, Orders.looks_fit, Places.conn, Places.placed, Settled.AreSettled, Settled.seat_on, Settled.seat_placed, Settled.settled_start, Settled.settled_step, Told.own_is_removed}
 
 -- the copies of all looks at a state are for the session in this slot alone
 abbrev LooksFit : ℕ → ℕ → StateValue → Type 0

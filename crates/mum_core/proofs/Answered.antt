@@ -1,17 +1,8 @@
--- What a step that tells one line is answered by.
-use Rattle.std.proofs.Common.{◌≡◌, ℕ, List, [], ◌∷◌, Option, Result, Ok, Err, false, refl, ◌∙◌}
-use Rattle.std.specs.Prelude.{map}
-use Rattle.mum_base.specs.Refusal.{Gives}
-use Rattle.mum_record.specs.declared.step.Step.{Step}
+-- What a step that reports one line is answered by.
+use Rattle.mum_core.proofs.Common.{◌≡◌, ℕ, List, [], ◌∷◌, Option, Result, Ok, Err, false, refl, ◌∙◌, map, Gives, Step, line_of_words, StepFault, named_cause, CoreState, joined, does, illegal, is_tell, lines}
 use Rattle.mum_record.specs.declared.step.Step.TheVariants as words
-use Rattle.mum_record.specs.Words.{line_of_words}
-use Rattle.mum_core.specs.declared.machine.StepFault.{StepFault}
-use Rattle.mum_core.specs.Case.{named_cause}
-use Rattle.mum_core.specs.Core.{CoreState}
-use Rattle.mum_core.specs.Line.{joined}
-use Rattle.mum_core.specs.Step.{does, illegal, is_tell, lines}
 
--- each other step than a tell tells one line, which is what is told
+-- each other step than a `Tell` reports one line, which is what is reported
 pub line_alone : (core : CoreState) (step : Step) → is_tell step ≡ false → joined (lines core step) ∷ [] ≡ map line_of_words (lines core step)
 line_alone core (words.Open c w) other = refl
 line_alone core (words.Frame c bytes) other = refl
@@ -32,7 +23,7 @@ pub told_as : {S F : Type 0} (named : F → Option (ℕ × ℕ)) (cause : Option
 told_as named cause a b done old (Ok given) new same h = (h.0, h.1 ∙ same, h.2)
 told_as named cause a b done old (Err fault) new same h = h
 
--- an answer of a step that tells one line as one text is its answer
+-- an answer of a step that reports one line as one text is its answer
 pub alone_gives : (core new : CoreState) (step : Step) (answered : Result (List (List ℕ)) StepFault) → is_tell step ≡ false
     → Gives named_cause (illegal core step) (joined (lines core step) ∷ []) (does core step) core answered new
     → Gives named_cause (illegal core step) (map line_of_words (lines core step)) (does core step) core answered new

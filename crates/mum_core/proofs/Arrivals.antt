@@ -1,50 +1,8 @@
 -- Whoever is given a seat is in its slot in some state of the run.
-use Rattle.std.proofs.Common.{◌≡◌, ℕ, ◌+◌, ◌<◌, Bool, true, false, cond, List, [], ◌∷◌, ◌++◌, length, map, take, drop, Option, Some, None, refl, sym, ap, subst, ◌∙◌, arith, inl, inr}
-use Rattle.std.specs.Prelude.{◌⊎◌, IfSome, find, ◌==◌}
-use Rattle.std.specs.List.{count_by}
-use Rattle.std.specs.Option.{option_map, option_map_or, option_or}
-use Rattle.std.proofs.lemmas.Bool.{eq-eqb}
-use Rattle.std.proofs.lemmas.List.{take-append-drop, take_all}
-use Rattle.std.proofs.lemmas.List.Sums.{fold-append}
-use Rattle.std.proofs.lemmas.Option.{same_Some}
-use Rattle.mum_base.specs.declared.number.AccountId.{AccountId}
-use Rattle.mum_base.specs.declared.number.SessionId.{SessionId}
-use Rattle.mum_users.specs.declared.user.User.{User}
-use Rattle.mum_users.specs.Sessions.{free_slot, next_number, next_slot}
-use Rattle.mum_users.specs.State.{has_number, joining}
-use Rattle.mum_state.specs.declared.edit.Edit.{Edit}
-use Rattle.mum_state.specs.declared.edit.Edit.TheVariants.{Join}
-use Rattle.mum_state.specs.declared.verdict.Verdict.{Verdict}
-use Rattle.mum_state.specs.After.{led_to}
-use Rattle.mum_state.specs.Applied.{applied}
-use Rattle.mum_state.specs.Laws.{IsInSlot}
-use Rattle.mum_state.specs.Proper.{IsProper}
-use Rattle.mum_state.specs.Set.{set_by}
-use Rattle.mum_state.specs.State.{StateValue}
-use Rattle.mum_state.specs.Suppression.{heard_anew, is_set_anew}
-use Rattle.mum_state.proofs.Each.{found_counts}
-use Rattle.mum_session.specs.declared.action.Action.{Action}
-use Rattle.mum_session.specs.declared.action.Action.TheVariants.{Ask, Keep}
-use Rattle.mum_session.specs.declared.command.Asked.{Asked}
-use Rattle.mum_core.specs.declared.connection.Connection.{Connection}
-use Rattle.mum_core.specs.declared.connection.Reply.{Reply}
-use Rattle.mum_core.specs.declared.connection.Seat.{Seat}
-use Rattle.mum_record.specs.declared.head.Version.{Version}
+use Rattle.mum_core.proofs.Common.{◌≡◌, ℕ, ◌+◌, ◌<◌, Bool, true, false, cond, List, [], ◌∷◌, ◌++◌, length, map, take, drop, Option, Some, None, refl, sym, ap, subst, ◌∙◌, arith, inl, inr, ◌⊎◌, IfSome, find, ◌==◌, count_by, option_map, option_map_or, option_or, eq-eqb, take-append-drop, take_all, fold-append, same_Some, AccountId, SessionId, User, free_slot, next_number, next_slot, has_number, joining, Edit, Join, Verdict, led_to, applied, IsInSlot, IsProper, set_by, StateValue, heard_anew, is_set_anew, found_counts, Action, Ask, Keep, Asked, Connection, Reply, Seat, Version, Step, Frame, Tell, Close, answered, fresh, next_command, next_of_frame, seat_given, session_of, told, CoreState, start, connection_at, current, state_at, ran, edits_of, verdict, seat_of, does, frame_action, frame_version}
+use Rattle.mum_core.proofs.{Copies.state_of_later, Fitted.IsLawful, Fitted.current_proper, Fitted.lawful_step, Lower.SeatsNext, Lower.verdict_seats, Places.Change, Places.change_by, Places.change_of, Places.change_to, Places.conn, Places.each_step, RunLaws.none_stands}
 use Rattle.mum_record.specs.declared.step.Step.TheVariants as steps
-use Rattle.mum_record.specs.declared.step.Step.{Step}
-use Rattle.mum_record.specs.declared.step.Step.TheVariants.{Frame, Tell, Close}
-use Rattle.mum_core.specs.Connection.{answered, fresh, next_command, next_of_frame, seat_given, session_of, told}
-use Rattle.mum_core.specs.Core.{CoreState, start, connection_at, current, state_at}
-use Rattle.mum_core.specs.Laws.{ran}
-use Rattle.mum_session.specs.Verdict.{edits_of, verdict}
-use Rattle.mum_core.specs.Reply.{seat_of}
-use Rattle.mum_core.specs.Step.{does, frame_action, frame_version}
 use Rattle.mum_core.specs.steps.Edit as edit_step
-use Rattle.mum_core.proofs.Copies.{state_of_later}
-use Rattle.mum_core.proofs.Fitted.{IsLawful, current_proper, lawful_step}
-use Rattle.mum_core.proofs.Lower.{SeatsNext, verdict_seats}
-use Rattle.mum_core.proofs.Places.{Change, change_by, change_of, change_to, conn, each_step}
-use Rattle.mum_core.proofs.RunLaws.{none_stands}
 
 -- ---- whoever joins is found in the next slot
 

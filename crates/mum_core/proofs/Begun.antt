@@ -1,17 +1,5 @@
 -- The core to which nothing happened, by its parts.
-use Rattle.std.proofs.Common.{◌≡◌, ℕ, ◌-◌, ◌≤◌, arith, List, [], ap, sym, ◌∙◌, length, replicate}
-use Rattle.std.specs.List.{All}
-use Rattle.mum_base.specs.declared.number.TheConstants.{SLOTS}
-use Rattle.mum_state.specs.State.{StateValue}
-use Rattle.mum_history.specs.History.{HistoryValue, begun}
-use Rattle.mum_history.specs.View.{IsViewOf, ViewValue}
-use Rattle.mum_notify.specs.declared.notice.Notice.{Notice}
-use Rattle.mum_record.specs.Head.{first_step_line}
-use Rattle.mum_record.specs.declared.head.Version.{Version}
-use Rattle.mum_core.specs.declared.outbox.Parcel.{Parcel}
-use Rattle.mum_core.specs.Core.{CoreState, start}
-use Rattle.mum_core.specs.Kept.{IsKept}
-use Rattle.mum_core.specs.Worker.{WorkerState, idle}
+use Rattle.mum_core.proofs.Common.{◌≡◌, ℕ, ◌-◌, ◌≤◌, arith, List, [], ap, sym, ◌∙◌, length, replicate, All, SLOTS, StateValue, HistoryValue, begun, IsViewOf, ViewValue, Notice, first_step_line, Version, Parcel, CoreState, start, IsKept, WorkerState, idle}
 
 abbrev pub core_of : Version → HistoryValue → List WorkerState → List (List Parcel) → List (List Notice) → CoreState
 core_of version history workers outboxes posts = record {

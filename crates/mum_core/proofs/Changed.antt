@@ -1,10 +1,5 @@
 -- A list of which one element is changed.
-use Rattle.std.proofs.Common.{◌≡◌, ℕ, ◌<◌, List, length, get_or, Option, Some, None, refl, inl, inr}
-use Rattle.std.specs.Prelude.{slice_get, slice_index_or, slice_set}
-use Rattle.std.proofs.lemmas.Bool.{cases_eq}
-use Rattle.std.proofs.lemmas.List.{get_or-set_same, get_or-set_other, length-set}
-use Rattle.std.proofs.lemmas.Option.{slice_get_within, get_or_from_slice_get, slice_get-get_or}
-use Rattle.mum_core.specs.Lists.{changed_at, with_found}
+use Rattle.mum_core.proofs.Common.{◌≡◌, ℕ, ◌<◌, List, length, get_or, Option, Some, None, refl, inl, inr, slice_get, slice_index_or, slice_set, cases_eq, get_or-set_same, get_or-set_other, length-set, slice_get_within, get_or_from_slice_get, slice_get-get_or, changed_at, with_found}
 
 pub changed_same : {A : Type 0} (xs : List A) (i : ℕ) (change : A → A) (d : A) → i < length xs → slice_index_or (changed_at i change xs) i d ≡ change (slice_index_or xs i d)
 changed_same xs i change d within =

@@ -1,42 +1,14 @@
 -- What holds of all copies that workers have in hand, where it holds of those of each look; and the steps that leave outboxes as they are.
-use Rattle.std.proofs.Common.{◌≡◌, ℕ, zero, suc, Bool, true, false, cond, List, [], ◌∷◌, ◌++◌, length, map, take, drop, Option, Some, None, refl, sym, ap, ◌∙◌}
-use Rattle.std.specs.Prelude.{slice_index_or, replicate}
-use Rattle.std.specs.List.{AllByRecursion}
-use Rattle.std.specs.Option.{option_map_or}
-use Rattle.mum_users.specs.declared.user.User.{User}
+use Rattle.mum_core.proofs.Common.{◌≡◌, ℕ, zero, suc, Bool, true, false, cond, List, [], ◌∷◌, ◌++◌, length, map, take, drop, Option, Some, None, refl, sym, ap, ◌∙◌, slice_index_or, replicate, AllByRecursion, option_map_or, User, Verdict, led_to, StateValue, Member, each_hearer, seated, packet, Action, Voice, Parcel, Seat, Outgoing, Step, Open, Frame, Publish, Tell, Look, Offer, Post, Drain, Collect, Close, End, CoreState, connection_at, worker_at, state_at, at_outbox, ran, does, frame_action, frame_version, WorkerState, HeldPacket, idle, spoken, changed_at, does_from, is_for, takes, with_stale, carried, copy_queues, notice_queues, Notice}
 use Rattle.mum_users.specs.Sessions.{session_of}
-use Rattle.mum_state.specs.declared.verdict.Verdict.{Verdict}
-use Rattle.mum_state.specs.After.{led_to}
-use Rattle.mum_state.specs.State.{StateValue}
-use Rattle.mum_route.specs.Route.{Member}
-use Rattle.mum_route.proofs.Seated.{each_hearer, seated}
-use Rattle.mum_voice.specs.Packet.{packet}
-use Rattle.mum_session.specs.declared.action.Action.{Action}
-use Rattle.mum_session.specs.declared.action.Action.TheVariants.{Voice}
-use Rattle.mum_core.specs.declared.outbox.Parcel.{Parcel}
-use Rattle.mum_core.specs.declared.connection.Seat.{Seat}
-use Rattle.mum_core.specs.declared.worker.Outgoing.{Outgoing}
+use Rattle.mum_core.proofs.{Delivered.delivered, Changed.changed-by, Changed.length-changed, RunLaws.accepted_grows, RunLaws.decided_workers, RunLaws.drain_workers, RunLaws.opening_stays, RunLaws.puts_workers, RunLaws.taken_core, RunLaws.told_core, RunLaws.posting_core, RunLaws.posted_workers, RunLaws.collect_workers}
 use Rattle.mum_record.specs.declared.step.Step.TheVariants as steps
-use Rattle.mum_record.specs.declared.step.Step.{Step}
-use Rattle.mum_record.specs.declared.step.Step.TheVariants.{Open, Frame, Publish, Tell, Look, Offer, Post, Drain, Collect, Close, End}
-use Rattle.mum_core.specs.Core.{CoreState, connection_at, worker_at, state_at, at_outbox}
-use Rattle.mum_core.specs.Laws.{ran}
-use Rattle.mum_core.specs.Step.{does, frame_action, frame_version}
-use Rattle.mum_core.specs.Worker.{WorkerState, HeldPacket, idle}
 use Rattle.mum_core.specs.steps.Edit as edit_step
 use Rattle.mum_core.specs.steps.Frame as frame_step
-use Rattle.mum_core.specs.steps.Frame.{spoken}
 use Rattle.mum_core.specs.steps.Look as look_step
 use Rattle.mum_core.specs.steps.Offer as offer_step
-use Rattle.mum_core.specs.Lists.{changed_at}
-use Rattle.mum_core.specs.Delivery.{does_from, is_for, takes, with_stale}
-use Rattle.mum_core.specs.steps.{Drain.carried, Drain.copy_queues, Collect.notice_queues}
-use Rattle.mum_core.proofs.Delivered.{delivered}
 use Rattle.mum_core.specs.steps.Post as post_step
-use Rattle.mum_notify.specs.declared.notice.Notice.{Notice}
 use Rattle.mum_core.specs.steps.Tell as tell_step
-use Rattle.mum_core.proofs.Changed.{changed-by, length-changed}
-use Rattle.mum_core.proofs.RunLaws.{accepted_grows, decided_workers, drain_workers, opening_stays, puts_workers, taken_core, told_core, posting_core, posted_workers, collect_workers}
 
 -- ---- lists
 

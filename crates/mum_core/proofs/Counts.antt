@@ -1,41 +1,13 @@
 -- Each copy of a look is sent, or found its outbox full, or is left.
-use Rattle.std.proofs.Common.{◌≡◌, ℕ, zero, suc, ◌+◌, ◌-◌, ◌≤◌, ◌<◌, ◌^◌, min, Bool, true, false, cond, List, [], ◌∷◌, length, drop, get_or, Option, Some, None, refl, sym, ap, ◌∙◌, arith}
-use Rattle.std.specs.Prelude.{not, is_none, is_some, nat_lt, sum_by, slice_get, slice_index_or, slice_set, replicate, if◌then◌else◌}
-use Rattle.std.specs.Option.{option_map_or}
-use Rattle.std.proofs.lemmas.Bool.{ltb-false, ltb-true}
-use Rattle.std.proofs.lemmas.List.{length-map}
-use Rattle.std.proofs.lemmas.List.Sums.{sum_by-set}
-use Rattle.std.proofs.lemmas.Option.{slice_get_within, get_or_from_slice_get, slice_get-get_or}
-use Rattle.mum_state.specs.declared.verdict.Verdict.{Verdict}
-use Rattle.mum_state.specs.State.{StateValue}
-use Rattle.mum_voice.specs.Packet.{packet}
-use Rattle.mum_core.specs.declared.connection.Seat.{Seat}
-use Rattle.mum_core.specs.declared.worker.Outgoing.{Outgoing}
-use Rattle.mum_session.specs.declared.action.Action.{Action}
-use Rattle.mum_session.specs.declared.action.Action.TheVariants.{Voice}
-use Rattle.mum_record.specs.declared.head.Version.{Version}
+use Rattle.mum_core.proofs.Common.{◌≡◌, ℕ, zero, suc, ◌+◌, ◌-◌, ◌≤◌, ◌<◌, ◌^◌, min, Bool, true, false, cond, List, [], ◌∷◌, length, drop, get_or, Option, Some, None, refl, sym, ap, ◌∙◌, arith, not, is_none, is_some, nat_lt, sum_by, slice_get, slice_index_or, slice_set, replicate, if◌then◌else◌, option_map_or, ltb-false, ltb-true, length-map, sum_by-set, slice_get_within, get_or_from_slice_get, slice_get-get_or, Verdict, StateValue, packet, Seat, Outgoing, Action, Voice, Version, Step, Open, Frame, Publish, Tell, Look, Offer, Post, Drain, Collect, Close, End, is_untold, CoreState, start, connection_at, worker_at, state_at, is_opened, IsRun, ran, looked, changed_at, with_found, does, frame_action, frame_version, illegal, WorkerState, HeldPacket, idle, in_hand, spoken, Queues, does_from, with_stale, copy_queues, notice_queues, Notice}
+use Rattle.mum_core.proofs.{Delivered.delivered, Changed.changed-by, RunLaws.decided_workers, RunLaws.drain_workers, RunLaws.first_of, RunLaws.none_stands, RunLaws.not_false, RunLaws.puts_workers, RunLaws.taken_core, RunLaws.told_core, RunLaws.posting_core, RunLaws.posted_workers, RunLaws.collect_workers}
 use Rattle.mum_record.specs.declared.step.Step.TheVariants as steps
-use Rattle.mum_record.specs.declared.step.Step.{Step}
-use Rattle.mum_record.specs.declared.step.Step.TheVariants.{Open, Frame, Publish, Tell, Look, Offer, Post, Drain, Collect, Close, End}
-use Rattle.mum_core.specs.Connection.{is_untold}
-use Rattle.mum_core.specs.Core.{CoreState, start, connection_at, worker_at, state_at, is_opened}
-use Rattle.mum_core.specs.Laws.{IsRun, ran, looked}
-use Rattle.mum_core.specs.Lists.{changed_at, with_found}
-use Rattle.mum_core.specs.Step.{does, frame_action, frame_version, illegal}
-use Rattle.mum_core.specs.Worker.{WorkerState, HeldPacket, idle, in_hand}
 use Rattle.mum_core.specs.steps.Edit as edit_step
 use Rattle.mum_core.specs.steps.Frame as frame_step
-use Rattle.mum_core.specs.steps.Frame.{spoken}
 use Rattle.mum_core.specs.steps.Look as look_step
 use Rattle.mum_core.specs.steps.Offer as offer_step
-use Rattle.mum_core.specs.Delivery.{Queues, does_from, with_stale}
-use Rattle.mum_core.specs.steps.{Drain.copy_queues, Collect.notice_queues}
-use Rattle.mum_core.proofs.Delivered.{delivered}
 use Rattle.mum_core.specs.steps.Post as post_step
-use Rattle.mum_notify.specs.declared.notice.Notice.{Notice}
 use Rattle.mum_core.specs.steps.Tell as tell_step
-use Rattle.mum_core.proofs.Changed.{changed-by}
-use Rattle.mum_core.proofs.RunLaws.{decided_workers, drain_workers, first_of, none_stands, not_false, puts_workers, taken_core, told_core, posting_core, posted_workers, collect_workers}
 
 -- ---- a worker that holds a packet has no copies
 
@@ -168,7 +140,7 @@ delivery_same : (queues : Queues) (core : CoreState) (seat : Option Seat) → ((
     → ((slot : ℕ) → Same core (with_stale (queues.without slot core))) → Same core (does_from queues core seat)
 delivery_same queues core seat own stale = delivered (Same core) queues core seat (refl, refl, refl) own stale
 
--- an offer counts its copy once, where no count stands at its end
+-- an offer counts its copy once, where no count is at its end
 abbrev CountsOne : CoreState → CoreState → Type 0
 CountsOne old new = (new.totals.copies + new.totals.full ≡ old.totals.copies + old.totals.full + 1) × (left new ≡ left old)
 

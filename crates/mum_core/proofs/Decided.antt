@@ -1,23 +1,5 @@
 -- The seat that an accepted edit gives is below the limit.
-use Rattle.std.proofs.Common.{◌≡◌, ℕ, ◌<◌, ◌≤◌, ◌&&◌, Bool, true, false, List, length, None, Some, refl, arith}
-use Rattle.std.specs.Prelude.{◌==◌, IfSome, is_none, if◌then◌else◌}
-use Rattle.std.specs.List.{list_any}
-use Rattle.std.proofs.lemmas.Bool.{and_parts, eqb-true, leb-false}
-use Rattle.mum_users.specs.declared.fault.UserFault.TheVariants.{NameInUse, Full, SessionsUsedUp}
-use Rattle.mum_users.specs.Sessions.{free_slot, is_full, is_used_up, join_fault, next_number, next_slot}
-use Rattle.mum_users.specs.State.{RosterState, are_tokens, has_name}
-use Rattle.mum_users.proofs.Slots.{free_slot_from-le}
-use Rattle.mum_state.specs.declared.edit.Edit.{Edit}
-use Rattle.mum_state.specs.declared.edit.Edit.TheVariants.{Join}
-use Rattle.mum_state.specs.declared.verdict.Verdict.{Verdict}
-use Rattle.mum_state.specs.declared.verdict.Verdict.TheVariants.{Accepted}
-use Rattle.mum_state.specs.Fits.{gives_right_numbers, is_countable, sets_properly}
-use Rattle.mum_state.specs.Named.{names_there}
-use Rattle.mum_state.specs.Proper.{IsProper, is_short}
-use Rattle.mum_state.specs.State.{StateValue}
-use Rattle.mum_rules_tree.specs.Decision.{FitsWhereAccepted}
-use Rattle.mum_base.specs.declared.number.TheConstants.{SLOTS}
-use Rattle.mum_core.specs.Reply.{seat_of}
+use Rattle.mum_core.proofs.Common.{◌≡◌, ℕ, ◌<◌, ◌≤◌, ◌&&◌, Bool, true, false, List, length, None, Some, refl, arith, ◌==◌, IfSome, is_none, if◌then◌else◌, list_any, and_parts, eqb-true, leb-false, NameInUse, Full, SessionsUsedUp, free_slot, is_full, is_used_up, join_fault, next_number, next_slot, RosterState, are_tokens, has_name, free_slot_from-le, Edit, Join, Verdict, Accepted, gives_right_numbers, is_countable, sets_properly, names_there, IsProper, is_short, StateValue, FitsWhereAccepted, SLOTS, seat_of}
 
 not_full : (a b c : Bool) → is_none (if a then Some NameInUse else if b then Some Full else if c then Some SessionsUsedUp else None) ≡ true → b ≡ false
 not_full true b c none = cc

@@ -1,8 +1,5 @@
 -- What a delivery leaves as it was.
-use Rattle.std.proofs.Common.{ℕ, Bool, true, false, cond, Option, Some, None}
-use Rattle.mum_core.specs.declared.connection.Seat.{Seat}
-use Rattle.mum_core.specs.Core.{CoreState}
-use Rattle.mum_core.specs.Delivery.{Delivery, Queues, does_from, is_for, takes, with_stale}
+use Rattle.mum_core.proofs.Common.{ℕ, Bool, true, false, cond, Option, Some, None, Seat, CoreState, Delivery, Queues, does_from, is_for, takes, with_stale}
 
 -- a fact of the core, and of the core without the oldest in a slot, one counted as stale or not, holds after a delivery
 pub delivered : (holds : CoreState → Type 0) (queues : Queues) (core : CoreState) (seat : Option Seat) → holds core

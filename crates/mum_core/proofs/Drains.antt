@@ -1,52 +1,10 @@
--- Each copy that was sent was told to a connection, or was dropped, or waits.
-use Rattle.std.proofs.Common.{◌≡◌, ℕ, zero, suc, ◌+◌, ◌-◌, ◌≤◌, ◌<◌, ◌^◌, min, Bool, true, false, cond, List, [], ◌∷◌, ◌++◌, length, take, drop, get_or, Option, Some, None, refl, sym, subst, inl, inr, ap, ◌∙◌, arith, length-append}
-use Rattle.std.specs.Prelude.{filter, sum_by, slice_get, slice_index_or, replicate}
-use Rattle.std.specs.List.{All, AllByRecursion, Contains}
-use Rattle.std.specs.Option.{option_map, option_map_or}
-use Rattle.std.proofs.lemmas.Bool.{and_from}
-use Rattle.mum_base.specs.declared.number.Slot.{Slot}
-use Rattle.mum_users.specs.declared.user.User.{User}
-use Rattle.mum_state.specs.declared.edit.Edit.{Edit}
-use Rattle.mum_state.specs.declared.verdict.Verdict.{Verdict}
-use Rattle.mum_state.specs.declared.verdict.Verdict.TheVariants.{Accepted, Lacks, Refused, Rejected, Answer, Ignored}
-use Rattle.mum_state.specs.Applied.{applied}
-use Rattle.mum_state.specs.Fits.{fits}
-use Rattle.mum_rules_tree.specs.Decision.{FitsWhereAccepted}
-use Rattle.mum_notify.specs.declared.notice.Notice.{Notice}
-use Rattle.mum_notify.specs.Laws.{IsAddressee}
-use Rattle.mum_notify.specs.Notices.{notices}
-use Rattle.mum_notify.proofs.Told.{each_has_its_session_lem}
-use Rattle.mum_session.specs.declared.command.Asked.{Asked}
-use Rattle.mum_core.specs.Connection.{lagging, next_command, session_of}
-use Rattle.mum_session.specs.Verdict.{verdict}
-use Rattle.std.proofs.lemmas.List.{length-replicate}
-use Rattle.std.proofs.lemmas.List.Sums.{sum_by-set}
-use Rattle.std.proofs.lemmas.Option.{slice_get_within, get_or_from_slice_get, slice_get-get_or}
-use Rattle.mum_state.specs.Proper.{IsProper}
-use Rattle.mum_state.specs.State.{StateValue}
-use Rattle.mum_core.specs.declared.connection.Seat.{Seat}
-use Rattle.mum_core.specs.declared.outbox.Parcel.{Parcel}
-use Rattle.mum_base.specs.declared.number.TheConstants.{SLOTS}
-use Rattle.mum_core.specs.declared.worker.Outgoing.{Outgoing}
-use Rattle.mum_record.specs.declared.head.Version.{Version}
+-- Each copy that was sent was delivered to a connection, or was dropped, or waits.
+use Rattle.mum_core.proofs.Common.{◌≡◌, ℕ, zero, suc, ◌+◌, ◌-◌, ◌≤◌, ◌<◌, ◌^◌, min, Bool, true, false, cond, List, [], ◌∷◌, ◌++◌, length, take, drop, get_or, Option, Some, None, refl, sym, subst, inl, inr, ap, ◌∙◌, arith, length-append, filter, sum_by, slice_get, slice_index_or, replicate, All, AllByRecursion, Contains, option_map, option_map_or, and_from, Slot, User, Edit, Verdict, Accepted, Lacks, Refused, Rejected, Answer, Ignored, applied, fits, FitsWhereAccepted, Notice, IsAddressee, notices, each_has_its_session_lem, Asked, lagging, next_command, session_of, verdict, length-replicate, sum_by-set, slice_get_within, get_or_from_slice_get, slice_get-get_or, IsProper, StateValue, Seat, Parcel, SLOTS, Outgoing, Version, Step, Open, Frame, Publish, Tell, Look, Offer, Post, Drain, Collect, Close, End, CoreState, start, connection_at, current, worker_at, outbox_at, posts_at, at_posts, at_session, state_at, IsRun, gathered, noticed, offered, own_front, own_notice, posted, ran, told_notice, wired, changed_at, does, frame_action, frame_version, does_from, is_for, takes, with_stale, carried, copy_queues, framed, notice_queues}
+use Rattle.mum_core.proofs.{Copies.AllCopies, Copies.AllLooked, Copies.Still, Copies.boxes_step, Copies.copies_step, Copies.decided_still, Copies.each_looked, Copies.frame_still, Copies.idle_copies, Copies.looks_before, Copies.notes_still, Copies.rest_core, Fitted.IsLawful, Fitted.current_proper, Fitted.lawful_all, Fitted.lawful_start, Fitted.lawful_step, Fitted.state_proper, Present.each_in_server, Present.slot_below, RunLaws.posting_core, RunLaws.taken_core, RunLaws.told_core, Lower.keeps_proper, Lower.verdict_fits, Notices.decided_posts, Notices.drain_quiet, Notices.frame_quiet, Notices.notes_quiet, Notices.puts_quiet, Notices.slots_stay, Notices.waits}
 use Rattle.mum_record.specs.declared.step.Step.TheVariants as steps
-use Rattle.mum_record.specs.declared.step.Step.{Step}
-use Rattle.mum_record.specs.declared.step.Step.TheVariants.{Open, Frame, Publish, Tell, Look, Offer, Post, Drain, Collect, Close, End}
-use Rattle.mum_core.specs.Core.{CoreState, start, connection_at, current, worker_at, outbox_at, posts_at, at_posts, at_session, state_at}
-use Rattle.mum_core.specs.Laws.{IsRun, gathered, noticed, offered, own_front, own_notice, posted, ran, told_notice, wired}
-use Rattle.mum_core.specs.Lists.{changed_at}
-use Rattle.mum_core.specs.Step.{does, frame_action, frame_version}
 use Rattle.mum_core.specs.steps.Edit as edit_step
 use Rattle.mum_core.specs.steps.Offer as offer_step
-use Rattle.mum_core.specs.Delivery.{does_from, is_for, takes, with_stale}
-use Rattle.mum_core.specs.steps.{Drain.carried, Drain.copy_queues, Collect.framed, Collect.notice_queues}
 use Rattle.mum_core.specs.steps.Post as post_step
-use Rattle.mum_core.proofs.Copies.{AllCopies, AllLooked, Still, boxes_step, copies_step, decided_still, each_looked, frame_still, idle_copies, looks_before, notes_still, rest_core}
-use Rattle.mum_core.proofs.Fitted.{IsLawful, current_proper, lawful_all, lawful_start, lawful_step, state_proper}
-use Rattle.mum_core.proofs.Present.{each_in_server, slot_below}
-use Rattle.mum_core.proofs.RunLaws.{posting_core, taken_core, told_core}
-use Rattle.mum_core.proofs.Lower.{keeps_proper, verdict_fits}
-use Rattle.mum_core.proofs.Notices.{decided_posts, drain_quiet, frame_quiet, notes_quiet, puts_quiet, slots_stay, waits}
 
 -- the copies that wait, and the notices
 abbrev waiting : CoreState → ℕ
@@ -55,7 +13,7 @@ waiting core = sum_by length core.outboxes
 abbrev posted_there : CoreState → ℕ
 posted_there core = sum_by length core.posts
 
--- what is told, dropped and waits is as much more as what was sent
+-- what is delivered, dropped and waits is as much more as what was sent
 abbrev Moves : CoreState → CoreState → ℕ → Type 0
 Moves old new told =
     (new.totals.copies ≤ old.totals.copies + 1) × (new.totals.stale ≤ old.totals.stale + 1)
@@ -121,7 +79,7 @@ drain_moves core (Some seat) room = drained_moves core seat room (outbox_at core
 
 -- ---- notices
 
--- what is told, dropped and waits is as much more as what was sent and posted
+-- what is delivered, dropped and waits is as much more as what was sent and posted
 abbrev MovesAll : CoreState → CoreState → ℕ → ℕ → Type 0
 MovesAll old new told put =
     (new.totals.copies ≤ old.totals.copies + 1) × (new.totals.stale ≤ old.totals.stale + 1)

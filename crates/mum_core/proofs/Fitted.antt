@@ -1,39 +1,9 @@
--- Each accepted edit of a run fits where it stands, so the states of a run are proper, and whoever is there in two of them is in one slot.
-use Rattle.std.proofs.Common.{◌≡◌, ℕ, zero, suc, ◌+◌, ◌-◌, ◌≤◌, List, [], ◌∷◌, ◌++◌, length, take, drop, Option, Some, None, refl, sym, ap, ◌∙◌, subst, arith, inl, inr}
-use Rattle.std.specs.Prelude.{IsTrue}
-use Rattle.std.specs.Option.{option_map, option_map_or}
-use Rattle.std.proofs.lemmas.Bool.{and_parts, cases_lt}
-use Rattle.std.proofs.lemmas.List.{append-nil, take-append-le}
-use Rattle.std.proofs.lemmas.List.Sums.{fold-append}
-use lib.Seq.{take-add}
-use Rattle.mum_base.specs.declared.number.SessionId.{SessionId}
-use Rattle.mum_base.specs.declared.number.Slot.{Slot}
-use Rattle.mum_state.specs.declared.edit.Edit.{Edit}
-use Rattle.mum_state.specs.declared.verdict.Verdict.{Verdict}
-use Rattle.mum_state.specs.declared.verdict.Verdict.TheVariants.{Accepted, Lacks, Refused, Rejected, Answer, Ignored}
-use Rattle.mum_state.specs.After.{all_fit, at, led_to}
-use Rattle.mum_state.specs.Applied.{applied}
-use Rattle.mum_state.specs.Fits.{fits}
-use Rattle.mum_state.specs.Laws.{IsInSlot}
-use Rattle.mum_state.specs.Proper.{IsProper}
-use Rattle.mum_state.specs.State.{StateValue}
-use Rattle.mum_state.proofs.Seats.{seats_stand_lem}
-use Rattle.mum_history.proofs.Fronts.{all_fit_on}
-use Rattle.mum_rules_tree.specs.Decision.{FitsWhereAccepted}
-use Rattle.mum_session.specs.declared.command.Asked.{Asked}
-use Rattle.mum_record.specs.declared.head.Version.{Version}
+-- Each accepted edit of a run fits in its place, so the states of a run are proper, and whoever is there in two of them is in one slot.
+use Rattle.mum_core.proofs.Common.{◌≡◌, ℕ, zero, suc, ◌+◌, ◌-◌, ◌≤◌, List, [], ◌∷◌, ◌++◌, length, take, drop, Option, Some, None, refl, sym, ap, ◌∙◌, subst, arith, inl, inr, IsTrue, option_map, option_map_or, and_parts, cases_lt, append-nil, take-append-le, fold-append, take-add, SessionId, Slot, Edit, Verdict, Accepted, Lacks, Refused, Rejected, Answer, Ignored, all_fit, at, led_to, applied, fits, IsInSlot, IsProper, StateValue, seats_stand_lem, all_fit_on, FitsWhereAccepted, Asked, Version, Step, Open, Frame, Publish, Tell, Look, Offer, Post, Drain, Collect, Close, End, next_command, session_of, CoreState, start, connection_at, current, state_at, IsRun, ran, edits_of, verdict, does, frame_action, frame_version}
+use Rattle.mum_core.proofs.{Lower.keeps_proper, Lower.verdict_fits, RunLaws.told_core, RunLaws.taken_core, RunLaws.frame_keeps, RunLaws.notes_keep, RunLaws.puts_keep, RunLaws.drain_keeps, RunLaws.posted_keeps, RunLaws.collect_keeps, RunLaws.same_opening, RunLaws.opening_stays, RunLaws.accepted_grows}
 use Rattle.mum_record.specs.declared.step.Step.TheVariants as steps
-use Rattle.mum_record.specs.declared.step.Step.{Step}
-use Rattle.mum_record.specs.declared.step.Step.TheVariants.{Open, Frame, Publish, Tell, Look, Offer, Post, Drain, Collect, Close, End}
-use Rattle.mum_core.specs.Connection.{next_command, session_of}
-use Rattle.mum_core.specs.Core.{CoreState, start, connection_at, current, state_at}
-use Rattle.mum_core.specs.Laws.{IsRun, ran}
-use Rattle.mum_session.specs.Verdict.{edits_of, verdict}
-use Rattle.mum_core.specs.Step.{does, frame_action, frame_version}
 use Rattle.mum_core.specs.steps.Edit as edit_step
 use Rattle.mum_core.specs.steps.Offer as offer_step
-use Rattle.mum_core.proofs.Lower.{keeps_proper, verdict_fits}
-use Rattle.mum_core.proofs.RunLaws.{told_core, taken_core, frame_keeps, notes_keep, puts_keep, drain_keeps, posted_keeps, collect_keeps, same_opening, opening_stays, accepted_grows}
 
 -- ---- accepted edits fit
 
@@ -86,7 +56,7 @@ fitted core End proper fit = fit
 
 -- ---- lawful cores
 
--- the opening is proper, and each accepted edit fits where it stands
+-- the opening is proper, and each accepted edit fits in its place
 pub record IsLawful (core : CoreState) : Type 0 where
   pub proper : IsProper core.opening
   pub fit : IsFitted core

@@ -1,33 +1,8 @@
 -- Those who hear a packet, one by one, and the copies for them.
-use Rattle.std.proofs.Common.{◌≡◌, ℕ, suc, ◌<◌, Bool, true, false, List, [], ◌∷◌, length, map, Option, Some, None, refl, sym, ap, subst, ◌∙◌, arith}
-use Rattle.std.specs.Prelude.{not, nat_lt}
-use Rattle.std.specs.List.{All, AllByRecursion, AllPairs, cons_option}
-use Rattle.std.specs.Option.{option_map}
-use Rattle.std.proofs.lemmas.Bool.{and_parts, eq-eqb, false≢true, ltb-true, not-true}
-use Rattle.std.proofs.lemmas.List.Elements.{All-from_recursion, recursion_from_All}
-use Rattle.std.proofs.lemmas.List.Kept.{AllPairs-cons}
-use Rattle.std.proofs.lemmas.Option.{same_Some}
-use Rattle.mum_base.specs.declared.number.SessionId.{SessionId}
-use Rattle.mum_users.specs.declared.user.User.{User}
+use Rattle.mum_core.proofs.Common.{◌≡◌, ℕ, suc, ◌<◌, Bool, true, false, List, [], ◌∷◌, length, map, Option, Some, None, refl, sym, ap, subst, ◌∙◌, arith, not, nat_lt, All, AllByRecursion, AllPairs, cons_option, option_map, and_parts, eq-eqb, false≢true, ltb-true, not-true, All-from_recursion, recursion_from_All, AllPairs-cons, same_Some, SessionId, User, has_number, IsProper, StateValue, Hearer, LOOPBACK, hearers_at, hearers_of, is_silent, IsInLowerSlot, Member, route, each_hearing, found_number, found_own, pairs_hearing, route_of_loopback, route_of_none, route_of_silent, each_hearer_by, each_seated, seated, Look, CoreState, state_at, worker_at, does, illegal, HeldPacket, WorkerState, idle}
 use Rattle.mum_users.specs.Sessions.{session_of}
-use Rattle.mum_users.specs.State.{has_number}
-use Rattle.mum_state.specs.Proper.{IsProper}
-use Rattle.mum_state.specs.State.{StateValue}
-use Rattle.mum_route.specs.declared.hearer.Hearer.{Hearer}
-use Rattle.mum_route.specs.declared.routes.TheConstants.{LOOPBACK}
-use Rattle.mum_route.specs.Hearers.{hearers_at, hearers_of}
-use Rattle.mum_route.specs.Hearing.{is_silent}
-use Rattle.mum_route.specs.Laws.{IsInLowerSlot}
-use Rattle.mum_route.specs.Route.{Member, route}
-use Rattle.mum_route.proofs.Hearers.{each_hearing, found_number, found_own, pairs_hearing, route_of_loopback, route_of_none, route_of_silent}
-use Rattle.mum_route.proofs.Seated.{each_hearer_by, each_seated, seated}
-use Rattle.mum_record.specs.declared.step.Step.TheVariants.{Look}
-use Rattle.mum_core.specs.Core.{CoreState, state_at, worker_at}
-use Rattle.mum_core.specs.Step.{does, illegal}
-use Rattle.mum_core.specs.Worker.{HeldPacket, WorkerState, idle}
+use Rattle.mum_core.proofs.{Changed.changed_same, RunLaws.none_stands, RunLaws.not_false}
 use Rattle.mum_core.specs.steps.Look as look_step
-use Rattle.mum_core.proofs.Changed.{changed_same}
-use Rattle.mum_core.proofs.RunLaws.{none_stands, not_false}
 
 -- ---- the speaker
 

@@ -1,39 +1,7 @@
--- What a connection is told of one speaker are copies of packets that this speaker sent, in their order.
-use Rattle.std.proofs.Common.{◌≡◌, ℕ, zero, suc, ◌^◌, ◌<◌, ◌≤◌, ◌-◌, Bool, true, false, cond, List, [], ◌∷◌, ◌++◌, length, map, Option, Some, None, refl, sym, ap, subst, ◌∙◌, arith, inl, inr, append_assoc, lit≤}
-use Rattle.std.specs.Prelude.{◌⊎◌, filter, slice_index_or, ◌==◌}
-use Rattle.std.specs.List.{AllByRecursion}
-use Rattle.std.specs.Option.{option_map, option_map_or}
-use Rattle.std.proofs.lemmas.Bool.{cases_eq, eq-eqb, eqb-true}
-use Rattle.mum_users.specs.declared.user.User.{User}
+-- What a connection is sent of one speaker are copies of packets that this speaker sent, in their order.
+use Rattle.mum_core.proofs.Common.{◌≡◌, ℕ, zero, suc, ◌^◌, ◌<◌, ◌≤◌, ◌-◌, Bool, true, false, cond, List, [], ◌∷◌, ◌++◌, length, map, Option, Some, None, refl, sym, ap, subst, ◌∙◌, arith, inl, inr, append_assoc, lit≤, ◌⊎◌, filter, slice_index_or, ◌==◌, AllByRecursion, option_map, option_map_or, cases_eq, eq-eqb, eqb-true, User, IsProper, StateValue, shown, session_known, Parts, copy, shortest_word, word_at, shortest_word-read, Connection, Seat, Parcel, Outgoing, Version, Step, Drain, fresh, CoreState, start, connection_at, outbox_at, state_at, AreBytesOf, IsOfferOf, IsParcelOf, IsRun, IsSubsequence, IsSubsequenceBy, front_for, gathered, heard, is_by, own_front, packet_taken, ran, removed, sent, does, illegal, HeldPacket}
 use Rattle.mum_users.specs.Sessions.{session_of}
-use Rattle.mum_state.specs.Proper.{IsProper}
-use Rattle.mum_state.specs.State.{StateValue}
-use Rattle.mum_state.proofs.Each.{shown}
-use Rattle.mum_state.proofs.Seats.{session_known}
-use Rattle.mum_voice.specs.Packet.{Parts, copy}
-use Rattle.mum_voice.specs.Varint.{shortest_word, word_at}
-use Rattle.mum_voice.proofs.Shortest.{shortest_word-read}
-use Rattle.mum_core.specs.declared.connection.Connection.{Connection}
-use Rattle.mum_core.specs.declared.connection.Seat.{Seat}
-use Rattle.mum_core.specs.declared.outbox.Parcel.{Parcel}
-use Rattle.mum_core.specs.declared.worker.Outgoing.{Outgoing}
-use Rattle.mum_record.specs.declared.head.Version.{Version}
-use Rattle.mum_record.specs.declared.step.Step.{Step}
-use Rattle.mum_record.specs.declared.step.Step.TheVariants.{Drain}
-use Rattle.mum_core.specs.Connection.{fresh}
-use Rattle.mum_core.specs.Core.{CoreState, start, connection_at, outbox_at, state_at}
-use Rattle.mum_core.specs.Laws.{AreBytesOf, IsOfferOf, IsParcelOf, IsRun, IsSubsequence, IsSubsequenceBy, front_for, gathered, heard, is_by, own_front, packet_taken, ran, removed, sent}
-use Rattle.mum_core.specs.Step.{does, illegal}
-use Rattle.mum_core.specs.Worker.{HeldPacket}
-use Rattle.mum_core.proofs.Arrivals.{ArePresent, IsPresent, none_present, present_step, seats_present}
-use Rattle.mum_core.proofs.Fitted.{IsLawful, lawful_start, lawful_step, state_proper}
-use Rattle.mum_core.proofs.Orders.{sent_is_conserved}
-use Rattle.mum_core.proofs.Origins.{copies_follow_packets}
-use Rattle.mum_core.proofs.Places.{conn, placed, worker_stays}
-use Rattle.mum_core.proofs.Settled.{AreSettled, seat_all, seat_on, seat_placed, settled_start, settled_step}
-use Rattle.mum_core.proofs.Speakers.{IsOf, Source, given_of, joined_none, of_speaker, sound_all, sound_start, source}
-use Rattle.mum_core.proofs.Subsequences.{filter-mapped, filtered_stand, from_mapped, mapped_stand, only_of, stands_in_none, stands_longer, stands_through}
-use Rattle.mum_core.proofs.Told.{heard_is_of_removed}
+use Rattle.mum_core.proofs.{Arrivals.ArePresent, Arrivals.IsPresent, Arrivals.none_present, Arrivals.present_step, Arrivals.seats_present, Fitted.IsLawful, Fitted.lawful_start, Fitted.lawful_step, Fitted.state_proper, Orders.sent_is_conserved, Origins.copies_follow_packets, Places.conn, Places.placed, Places.worker_stays, Settled.AreSettled, Settled.seat_all, Settled.seat_on, Settled.seat_placed, Settled.settled_start, Settled.settled_step, Speakers.IsOf, Speakers.Source, Speakers.given_of, Speakers.joined_none, Speakers.of_speaker, Speakers.sound_all, Speakers.sound_start, Speakers.source, Subsequences.filter-mapped, Subsequences.filtered_stand, Subsequences.from_mapped, Subsequences.mapped_stand, Subsequences.only_of, Subsequences.stands_in_none, Subsequences.stands_longer, Subsequences.stands_through, Told.heard_is_of_removed}
 
 -- ---- the sender of a copy
 

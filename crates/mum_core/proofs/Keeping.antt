@@ -1,17 +1,5 @@
 -- Caches that are sound at a state of a list of edits are sound at each later one.
-use Rattle.std.proofs.Common.{◌≡◌, ℕ, zero, suc, ◌≤◌, List, [], ◌∷◌, ◌++◌, take, refl, sym, ap, ◌∙◌, subst, arith}
-use Rattle.std.specs.Prelude.{IsTrue}
-use Rattle.std.proofs.lemmas.Bool.{and_parts}
-use Rattle.std.proofs.lemmas.List.Sums.{fold-append}
-use Rattle.mum_state.specs.declared.edit.Edit.{Edit}
-use Rattle.mum_state.specs.After.{all_fit, at, led_to}
-use Rattle.mum_state.specs.Applied.{applied}
-use Rattle.mum_state.specs.Fits.{fits}
-use Rattle.mum_state.specs.Proper.{IsProper}
-use Rattle.mum_state.specs.State.{StateValue}
-use Rattle.mum_cache.specs.declared.caches.Caches.{Caches}
-use Rattle.mum_cache.specs.Caches.{AreSound}
-use Rattle.mum_cache.proofs.Staying.{sound_stays_lem}
+use Rattle.mum_core.proofs.Common.{◌≡◌, ℕ, zero, suc, ◌≤◌, List, [], ◌∷◌, ◌++◌, take, refl, sym, ap, ◌∙◌, subst, arith, IsTrue, and_parts, fold-append, Edit, all_fit, at, led_to, applied, fits, IsProper, StateValue, Caches, AreSound, sound_stays_lem}
 use Rattle.mum_core.proofs.Lower.{keeps_proper}
 
 -- the parts of a list of edits that fits, each by itself

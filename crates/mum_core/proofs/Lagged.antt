@@ -1,13 +1,6 @@
 -- A notice that finds the posts of its slot full.
-use Rattle.std.proofs.Common.{◌≡◌, ◌∙◌, ◌++◌, ◌∷◌, [], ℕ, Bool, false, cond, List, Option, Some, None, sym, ap, drop, map}
-use Rattle.std.specs.Prelude.{if◌then◌else◌, is_none, length, nat_lt, slice_get, slice_index_or}
-use Rattle.mum_notify.specs.declared.notice.Notice.{Notice}
-use Rattle.mum_core.specs.declared.connection.Connection.{Connection}
-use Rattle.mum_base.specs.declared.number.TheConstants.{POST_CAPACITY}
-use Rattle.mum_core.specs.Case.{first_that_stands}
-use Rattle.mum_core.specs.Connection.{is_of, lagging}
-use Rattle.mum_core.specs.Core.{CoreState, at_posts, at_session, up}
-use Rattle.mum_core.specs.steps.Post.{does, forbids, has_room, puts}
+use Rattle.mum_core.proofs.Common.{◌≡◌, ◌∙◌, ◌++◌, ◌∷◌, [], ℕ, Bool, false, cond, List, Option, Some, None, sym, ap, drop, map, if◌then◌else◌, is_none, length, nat_lt, slice_get, slice_index_or, Notice, Connection, POST_CAPACITY, first_that_stands, is_of, lagging, CoreState, at_posts, at_session, up, forbids, has_room, puts}
+use Rattle.mum_core.specs.steps.Post.{does}
 
 -- the posts at the place of a slot have no room
 pub found_full : (core : CoreState) (posts : List (List Notice)) (place slot : ℕ) (room : Bool) → posts ≡ core.posts → place ≡ slot

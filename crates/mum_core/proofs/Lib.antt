@@ -1,3 +1,5 @@
+mod Common
+pub mod Public
 pub mod Present
 pub mod Begun
 pub mod Taken

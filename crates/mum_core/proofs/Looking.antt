@@ -1,39 +1,11 @@
 -- The caches of the workers are sound after each step.
-use Rattle.std.proofs.Common.{◌≡◌, ℕ, zero, suc, ◌<◌, List, ◌++◌, length, Option, Some, None, refl, sym, ap, ◌∙◌, subst, arith, inl, inr, Result, Ok, Err}
-use Rattle.std.specs.Prelude.{◌⊎◌, ⊤, IsTrue, replicate, drop}
-use Rattle.std.specs.Option.{ForSome}
-use Rattle.std.proofs.lemmas.List.{length-replicate}
-use Rattle.std.proofs.lemmas.Option.{same_Some}
-use Rattle.mum_state.specs.declared.edit.Edit.{Edit}
-use Rattle.mum_state.specs.After.{all_fit, at}
-use Rattle.mum_state.specs.Proper.{IsProper}
-use Rattle.mum_state.specs.State.{StateValue}
-use Rattle.mum_voice.specs.Packet.{packet}
-use Rattle.mum_record.specs.declared.head.Version.{Version}
-use Rattle.mum_record.specs.declared.step.Step.{Step}
+use Rattle.mum_core.proofs.Common.{◌≡◌, ℕ, zero, suc, ◌<◌, List, ◌++◌, length, Option, Some, None, refl, sym, ap, ◌∙◌, subst, arith, inl, inr, Result, Ok, Err, ◌⊎◌, ⊤, IsTrue, replicate, drop, ForSome, length-replicate, same_Some, Edit, all_fit, at, IsProper, StateValue, packet, Version, Step, Open, Frame, Publish, Tell, Look, Offer, Post, Drain, Collect, Close, End, Action, Voice, Caches, AreSound, CachedCore, EachIsSound, KeepsFor, LooksThrough, caches_at, routes_in, Gives, Settles, StepFault, IsStarved, named_cause, CoreState, connection_at, start, state_at, worker_at, changed_at, does, frame_action, frame_version, illegal, HeldPacket, WorkerState, idle, spoken}
+use Rattle.mum_core.proofs.{Changed.changed-by, Changed.changed_other, Changed.changed_same, Changed.length-changed, Fitted.lawful_step, Keeping.sound_on, RunLaws.collect_workers, RunLaws.decided_workers, RunLaws.drain_workers, RunLaws.goes_on, RunLaws.grown, RunLaws.posted_workers, RunLaws.puts_workers, RunLaws.same_opening, RunLaws.taken_core, RunLaws.told_core}
 use Rattle.mum_record.specs.declared.step.Step.TheVariants as steps
-use Rattle.mum_record.specs.declared.step.Step.TheVariants.{Open, Frame, Publish, Tell, Look, Offer, Post, Drain, Collect, Close, End}
-use Rattle.mum_session.specs.declared.action.Action.{Action}
-use Rattle.mum_session.specs.declared.action.Action.TheVariants.{Voice}
-use Rattle.mum_cache.specs.declared.caches.Caches.{Caches}
-use Rattle.mum_cache.specs.Caches.{AreSound}
-use Rattle.mum_core.specs.Caches.{CachedCore, EachIsSound, KeepsFor, LooksThrough, caches_at, routes_in}
-use Rattle.mum_base.specs.Refusal.{Gives, Settles}
-use Rattle.mum_core.specs.declared.machine.StepFault.{StepFault}
-use Rattle.mum_core.specs.Case.{IsStarved, named_cause}
-use Rattle.mum_core.specs.Core.{CoreState, connection_at, start, state_at, worker_at}
-use Rattle.mum_core.specs.Lists.{changed_at}
-use Rattle.mum_core.specs.Step.{does, frame_action, frame_version, illegal}
-use Rattle.mum_core.specs.Worker.{HeldPacket, WorkerState, idle}
 use Rattle.mum_core.specs.steps.Edit as edit_step
 use Rattle.mum_core.specs.steps.Frame as frame_step
-use Rattle.mum_core.specs.steps.Frame.{spoken}
 use Rattle.mum_core.specs.steps.Offer as offer_step
 use Rattle.mum_core.specs.steps.Tell as tell_step
-use Rattle.mum_core.proofs.Changed.{changed-by, changed_other, changed_same, length-changed}
-use Rattle.mum_core.proofs.Fitted.{lawful_step}
-use Rattle.mum_core.proofs.Keeping.{sound_on}
-use Rattle.mum_core.proofs.RunLaws.{collect_workers, decided_workers, drain_workers, goes_on, grown, posted_workers, puts_workers, same_opening, taken_core, told_core}
 
 -- ---- no step makes or takes a worker
 

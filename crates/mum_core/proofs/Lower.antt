@@ -1,40 +1,7 @@
 -- What the crates below prove of states and decisions, by the names under which it is used here.
-use Rattle.std.proofs.Common.{◌≡◌, ℕ, ◌≤◌, List, Option, None, Some, refl, inl, inr}
-use Rattle.std.specs.Prelude.{◌⊎◌, IsTrue}
-use Rattle.mum_base.specs.declared.number.AccountId.{AccountId}
-use Rattle.mum_base.specs.declared.number.SessionId.{SessionId}
-use Rattle.mum_policy.specs.Member.{Actor}
-use Rattle.mum_users.specs.Sessions.{next_number, next_slot}
-use Rattle.mum_state.specs.declared.edit.Edit.{Edit}
-use Rattle.mum_state.specs.declared.edit.Edit.TheVariants.{Join as JoinEdit}
-use Rattle.mum_state.specs.declared.verdict.Verdict.{Verdict}
-use Rattle.mum_state.specs.declared.verdict.Verdict.TheVariants.{Accepted, Answer}
-use Rattle.mum_state.specs.After.{all_fit, led_to}
-use Rattle.mum_state.specs.Applied.{applied}
-use Rattle.mum_state.specs.Permissions.{granted_where_there}
-use Rattle.mum_state.specs.Proper.{IsProper}
-use Rattle.mum_state.specs.State.{StateValue}
-use Rattle.mum_state.proofs.Keeping.{keeps_proper_lem}
-use Rattle.mum_state.proofs.Numbers.{last_rises as numbers_rise}
-use Rattle.mum_rules_tree.specs.declared.message.TreeMessage.{TreeMessage}
-use Rattle.mum_rules_tree.specs.Decision.{FitsWhereAccepted, first_lack, first_standing}
-use Rattle.mum_rules_tree.specs.Verdict.{tree_verdict}
-use Rattle.mum_rules_tree.proofs.Accepted.{accepted_fits as tree_accepted_fits}
-use Rattle.mum_rules_user.specs.declared.message.UserMessage.{UserMessage}
-use Rattle.mum_rules_user.specs.declared.message.UserMessage.TheVariants.{Join, User, Kick, Text, Target, Query, Leave}
-use Rattle.mum_rules_user.specs.Asked.{Command as UserCommand, command_of}
-use Rattle.mum_rules_user.specs.Limits.{limits}
-use Rattle.mum_rules_user.specs.Login.{limits_of_login}
-use Rattle.mum_rules_user.specs.Needs.{needs}
-use Rattle.mum_rules_user.specs.Outcome.{answer_frame, outcome}
-use Rattle.mum_rules_user.specs.Reasons.{reasons}
-use Rattle.mum_rules_user.specs.Verdict.{actor_for, command_verdict, heard_verdict, user_verdict}
-use Rattle.mum_rules_user.proofs.Accepted.{accepted_fits, login_accepted_fits}
-use Rattle.mum_session.specs.declared.command.Asked.{Asked}
+use Rattle.mum_core.proofs.Common.{◌≡◌, ℕ, ◌≤◌, List, Option, None, Some, refl, inl, inr, ◌⊎◌, IsTrue, AccountId, SessionId, Actor, next_number, next_slot, Edit, JoinEdit, Verdict, Accepted, Answer, all_fit, led_to, applied, granted_where_there, IsProper, StateValue, keeps_proper_lem, numbers_rise, TreeMessage, FitsWhereAccepted, first_lack, first_standing, tree_verdict, tree_accepted_fits, UserMessage, Kick, Text, Target, Query, UserCommand, command_of, limits, limits_of_login, needs, answer_frame, outcome, reasons, actor_for, command_verdict, heard_verdict, user_verdict, accepted_fits, login_accepted_fits, Asked, verdict, tree_holds, unless, seat_of}
+use Rattle.mum_rules_user.specs.declared.message.UserMessage.TheVariants.{Join, User, Leave}
 use Rattle.mum_session.specs.declared.command.Asked.TheVariants as commands
-use Rattle.mum_session.specs.Verdict.{verdict}
-use Rattle.mum_session.proofs.Channels.{tree_holds, unless}
-use Rattle.mum_core.specs.Reply.{seat_of}
 
 pub keeps_proper : (state : StateValue) (edits : List Edit) → IsProper state → IsTrue (all_fit state edits) → IsProper (led_to state edits)
 keeps_proper = keeps_proper_lem
@@ -57,7 +24,7 @@ tree_seats_nobody = tree_holds (λ v. seat_of v ≡ None) (record {
 
 -- ---- who is given a seat
 
--- a verdict gives no seat, or it is the next one and whoever asks had none
+-- a verdict gives no seat, or it is the next one and the actor had none
 abbrev pub SeatsNext : StateValue → Option SessionId → Verdict → Type 0
 SeatsNext state session decided =
     (seat_of decided ≡ None)

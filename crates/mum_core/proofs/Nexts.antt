@@ -1,17 +1,7 @@
 -- The command of a connection that is decided next.
-use Rattle.std.proofs.Common.{◌≡◌, true, Option, Some, None, refl, sym, ap, ◌∙◌}
-use Rattle.std.specs.Prelude.{is_some}
-use Rattle.std.specs.Option.{option_map, option_or}
-use Rattle.mum_base.specs.declared.number.SessionId.{SessionId}
-use Rattle.mum_state.specs.State.{StateValue}
-use Rattle.mum_state.specs.declared.verdict.Verdict.{Verdict}
-use Rattle.mum_rules_user.specs.declared.message.UserMessage.TheVariants as messages
-use Rattle.mum_core.specs.Connection.{answered, leave_waiting, next_command, next_of_frame, session_of}
-use Rattle.mum_session.specs.Verdict.{verdict}
-use Rattle.mum_session.specs.declared.command.Asked.{Asked}
+use Rattle.mum_core.proofs.Common.{◌≡◌, true, Option, Some, None, refl, sym, ap, ◌∙◌, is_some, option_map, option_or, SessionId, StateValue, Verdict, answered, leave_waiting, next_command, next_of_frame, session_of, verdict, Asked, Connection, Leave, Reply, Stays, Waits, Leads, Decided}
 use Rattle.mum_session.specs.declared.command.Asked.TheVariants.{User}
-use Rattle.mum_core.specs.declared.{connection.Connection.Connection, connection.Leave.Leave, connection.Reply.Reply}
-use Rattle.mum_core.specs.declared.connection.Leave.TheVariants.{Stays, Waits, Leads, Decided}
+use Rattle.mum_rules_user.specs.declared.message.UserMessage.TheVariants as messages
 
 -- it is that of its frame, where that is next, and else its leave
 pub frame_next : (x : Connection) (command : Asked) → next_of_frame x ≡ Some command → next_command x ≡ Some command

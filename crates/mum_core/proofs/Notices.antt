@@ -1,39 +1,12 @@
 -- The notices of accepted edits are posted in their order, and what is posted into a slot leaves it in order, or waits there.
-use Rattle.std.proofs.Common.{◌≡◌, ℕ, ◌<◌, Bool, true, false, cond, List, [], ◌∷◌, ◌++◌, length, take, drop, zero, suc, replicate, Option, Some, None, refl, sym, ap, subst, ◌∙◌, append_assoc}
-use Rattle.std.specs.Prelude.{filter, slice_get, slice_index_or, ◌==◌}
-use Rattle.std.specs.Option.{option_map, option_map_or}
-use Rattle.std.proofs.lemmas.Bool.{eqb-false, eqb-true}
-use Rattle.std.proofs.lemmas.List.{append-nil, length-replicate, take-append-drop}
-use Rattle.mum_state.specs.declared.verdict.Verdict.{Verdict}
-use Rattle.mum_state.specs.State.{StateValue}
-use Rattle.mum_notify.specs.declared.notice.Notice.{Notice}
-use Rattle.mum_voice.specs.Packet.{packet}
-use Rattle.mum_record.specs.declared.head.Version.{Version}
-use Rattle.mum_record.specs.declared.step.Step.{Step}
+use Rattle.mum_core.proofs.Common.{◌≡◌, ℕ, ◌<◌, Bool, true, false, cond, List, [], ◌∷◌, ◌++◌, length, take, drop, zero, suc, replicate, Option, Some, None, refl, sym, ap, subst, ◌∙◌, append_assoc, filter, slice_get, slice_index_or, ◌==◌, option_map, option_map_or, eqb-false, eqb-true, append-nil, length-replicate, take-append-drop, Verdict, StateValue, Notice, packet, Version, Step, Open, Frame, Publish, Tell, Look, Offer, Post, Drain, Collect, Close, End, Action, Voice, Seat, SLOTS, Outgoing, CoreState, start, connection_at, current, posts_at, at_posts, at_session, collected, collected_by, gathered, noticed, offered, posted_in, ran, lagging, changed_at, does, frame_action, frame_version, does_from, is_for, takes, with_stale, copy_queues, framed, notice_queues, HeldPacket, spoken}
+use Rattle.mum_core.proofs.{Delivered.delivered, Changed.changed_other, Changed.changed_same, Changed.length-changed, RunLaws.posting_core, RunLaws.taken_core, RunLaws.told_core}
 use Rattle.mum_record.specs.declared.step.Step.TheVariants as steps
-use Rattle.mum_record.specs.declared.step.Step.TheVariants.{Open, Frame, Publish, Tell, Look, Offer, Post, Drain, Collect, Close, End}
-use Rattle.mum_session.specs.declared.action.Action.{Action}
-use Rattle.mum_session.specs.declared.action.Action.TheVariants.{Voice}
-use Rattle.mum_core.specs.declared.connection.Seat.{Seat}
-use Rattle.mum_base.specs.declared.number.TheConstants.{SLOTS}
-use Rattle.mum_core.specs.declared.worker.Outgoing.{Outgoing}
-use Rattle.mum_core.specs.Core.{CoreState, start, connection_at, current, posts_at, at_posts, at_session}
-use Rattle.mum_core.specs.Laws.{collected, collected_by, gathered, noticed, offered, posted_in, ran}
-use Rattle.mum_core.specs.Connection.{lagging}
-use Rattle.mum_core.specs.Lists.{changed_at}
-use Rattle.mum_core.specs.Step.{does, frame_action, frame_version}
-use Rattle.mum_core.specs.Delivery.{does_from, is_for, takes, with_stale}
-use Rattle.mum_core.specs.steps.{Drain.copy_queues, Collect.framed, Collect.notice_queues}
-use Rattle.mum_core.proofs.Delivered.{delivered}
 use Rattle.mum_core.specs.steps.Edit as edit_step
-use Rattle.mum_core.specs.Worker.{HeldPacket}
 use Rattle.mum_core.specs.steps.Frame as frame_step
-use Rattle.mum_core.specs.steps.Frame.{spoken}
 use Rattle.mum_core.specs.steps.Offer as offer_step
 use Rattle.mum_core.specs.steps.Post as post_step
 use Rattle.mum_core.specs.steps.Tell as tell_step
-use Rattle.mum_core.proofs.Changed.{changed_other, changed_same, length-changed}
-use Rattle.mum_core.proofs.RunLaws.{posting_core, taken_core, told_core}
 
 -- ---- steps that neither notice, post nor collect
 

@@ -1,42 +1,10 @@
 -- What is sent to a session leaves the outbox of its slot, in order, or waits there.
-use Rattle.std.proofs.Common.{◌≡◌, ℕ, ◌<◌, Bool, true, false, cond, List, [], ◌∷◌, ◌++◌, length, map, take, drop, Option, Some, None, refl, sym, ap, subst, ◌∙◌, inl, inr, append_assoc}
-use Rattle.std.specs.Prelude.{filter, slice_get, slice_index_or, ◌==◌, ◌&&◌}
-use Rattle.std.specs.List.{AllByRecursion}
-use Rattle.std.specs.Option.{option_map}
-use Rattle.std.proofs.lemmas.Bool.{cases_eq, eqb-true}
-use Rattle.std.proofs.lemmas.List.{append-nil, map-append, length-replicate}
-use Rattle.std.proofs.lemmas.List.Elements.{filter-append}
-use Rattle.std.proofs.lemmas.Option.{none-some}
-use Rattle.mum_base.specs.declared.number.SessionId.{SessionId}
-use Rattle.mum_base.specs.declared.number.Slot.{Slot}
-use Rattle.mum_users.specs.declared.user.User.{User}
+use Rattle.mum_core.proofs.Common.{◌≡◌, ℕ, ◌<◌, Bool, true, false, cond, List, [], ◌∷◌, ◌++◌, length, map, take, drop, Option, Some, None, refl, sym, ap, subst, ◌∙◌, inl, inr, append_assoc, filter, slice_get, slice_index_or, ◌==◌, ◌&&◌, AllByRecursion, option_map, cases_eq, eqb-true, append-nil, map-append, length-replicate, filter-append, none-some, SessionId, Slot, User, IsInSlot, IsProper, StateValue, shown, Seat, Parcel, SLOTS, Outgoing, Version, Step, Open, Frame, Publish, Tell, Look, Offer, Post, Drain, Collect, Close, End, at_outbox, CoreState, start, connection_at, worker_at, outbox_at, state_at, up, IsRun, front, gathered, ran, removed, sent, changed_at, does, frame_action, frame_version, does_from, takes, carried, copy_queues}
 use Rattle.mum_users.specs.Sessions.{session_of}
-use Rattle.mum_state.specs.Laws.{IsInSlot}
-use Rattle.mum_state.specs.Proper.{IsProper}
-use Rattle.mum_state.specs.State.{StateValue}
-use Rattle.mum_state.proofs.Each.{shown}
-use Rattle.mum_core.specs.declared.connection.Seat.{Seat}
-use Rattle.mum_core.specs.declared.outbox.Parcel.{Parcel}
-use Rattle.mum_base.specs.declared.number.TheConstants.{SLOTS}
-use Rattle.mum_core.specs.declared.worker.Outgoing.{Outgoing}
-use Rattle.mum_record.specs.declared.head.Version.{Version}
+use Rattle.mum_core.proofs.{Delivered.delivered, Changed.changed-by, Changed.changed_same, Changed.changed_other, Copies.AllCopies, Copies.AllLooked, Copies.all-dropped, Copies.all-pushed, Copies.boxes_step, Copies.copies_step, Copies.decided_still, Copies.each_looked, Copies.empty_box, Copies.frame_still, Copies.idle_copies, Copies.looks_before, Copies.notes_still, Copies.put_core, Copies.takes_boxes, Copies.posted_still, Copies.collect_boxes, Fitted.IsLawful, Fitted.lawful_all, Fitted.lawful_start, Fitted.one_slot, Fitted.state_proper, Present.slot_below, RunLaws.taken_core, RunLaws.told_core}
 use Rattle.mum_record.specs.declared.step.Step.TheVariants as steps
-use Rattle.mum_record.specs.declared.step.Step.{Step}
-use Rattle.mum_record.specs.declared.step.Step.TheVariants.{Open, Frame, Publish, Tell, Look, Offer, Post, Drain, Collect, Close, End}
-use Rattle.mum_core.specs.Core.{at_outbox, CoreState, start, connection_at, worker_at, outbox_at, state_at, up}
-use Rattle.mum_core.specs.Laws.{IsRun, front, gathered, ran, removed, sent}
-use Rattle.mum_core.specs.Lists.{changed_at}
-use Rattle.mum_core.specs.Step.{does, frame_action, frame_version}
 use Rattle.mum_core.specs.steps.Edit as edit_step
 use Rattle.mum_core.specs.steps.Offer as offer_step
-use Rattle.mum_core.specs.Delivery.{does_from, takes}
-use Rattle.mum_core.specs.steps.{Drain.carried, Drain.copy_queues}
-use Rattle.mum_core.proofs.Delivered.{delivered}
-use Rattle.mum_core.proofs.Changed.{changed-by, changed_same, changed_other}
-use Rattle.mum_core.proofs.Copies.{AllCopies, AllLooked, all-dropped, all-pushed, boxes_step, copies_step, decided_still, each_looked, empty_box, frame_still, idle_copies, looks_before, notes_still, put_core, takes_boxes, posted_still, collect_boxes}
-use Rattle.mum_core.proofs.Fitted.{IsLawful, lawful_all, lawful_start, one_slot, state_proper}
-use Rattle.mum_core.proofs.Present.{slot_below}
-use Rattle.mum_core.proofs.RunLaws.{taken_core, told_core}
 
 -- ---- copies for a session are in its slot alone
 

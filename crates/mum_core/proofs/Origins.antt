@@ -1,39 +1,12 @@
 -- What a worker sends to a session are copies of the packets that it took, in their order.
-use Rattle.std.proofs.Common.{◌≡◌, ℕ, zero, suc, ◌<◌, Bool, true, false, cond, List, [], ◌∷◌, ◌++◌, length, map, max, take, drop, Option, Some, None, refl, sym, ap, subst, ◌∙◌, inl, inr, append_assoc}
-use Rattle.std.specs.Prelude.{◌⊎◌, not, filter, is_none, nat_lt, option_to_list, slice_index_or, replicate, ◌==◌, ◌&&◌}
-use Rattle.std.specs.List.{AllByRecursion}
-use Rattle.std.proofs.lemmas.Bool.{cases_eq, eq-eqb, eqb-true, ltb-true}
-use Rattle.std.proofs.lemmas.List.{append-nil, map-append}
-use Rattle.std.proofs.lemmas.List.Elements.{filter-append}
-use Rattle.std.proofs.lemmas.Option.{get_or_from_slice_get}
-use Rattle.mum_state.specs.Proper.{IsProper}
-use Rattle.mum_state.specs.State.{StateValue}
-use Rattle.mum_voice.specs.Packet.{packet}
-use Rattle.mum_session.specs.declared.action.Action.{Action}
-use Rattle.mum_session.specs.declared.action.Action.TheVariants.{Voice}
-use Rattle.mum_route.specs.declared.hearer.Hearer.{Hearer}
-use Rattle.mum_core.specs.declared.worker.Outgoing.{Outgoing}
-use Rattle.mum_record.specs.declared.head.Version.{Version}
+use Rattle.mum_core.proofs.Common.{◌≡◌, ℕ, zero, suc, ◌<◌, Bool, true, false, cond, List, [], ◌∷◌, ◌++◌, length, map, max, take, drop, Option, Some, None, refl, sym, ap, subst, ◌∙◌, inl, inr, append_assoc, ◌⊎◌, not, filter, is_none, nat_lt, option_to_list, slice_index_or, replicate, ◌==◌, ◌&&◌, AllByRecursion, cases_eq, eq-eqb, eqb-true, ltb-true, append-nil, map-append, filter-append, get_or_from_slice_get, IsProper, StateValue, packet, Action, Voice, Hearer, Outgoing, Version, Step, Open, Frame, Publish, Tell, Look, Offer, Post, Drain, Collect, Close, End, CoreState, start, connection_at, worker_at, state_at, IsCopyOf, IsOfferOf, IsRun, IsSubsequenceBy, gathered, packet_taken, sent, changed_at, does, frame_action, frame_version, illegal, WorkerState, HeldPacket, idle, spoken}
+use Rattle.mum_core.proofs.{Changed.changed-by, Changed.changed_same, Changed.changed_other, Counts.AreClean, Counts.clean_start, Counts.clean_step, Counts.frame_hands, Counts.held_there, Fitted.IsLawful, Fitted.lawful_start, Fitted.lawful_step, Fitted.state_proper, Heard.AreApart, Heard.IsApart, Heard.hearers_are_apart, RunLaws.decided_workers, RunLaws.drain_workers, RunLaws.none_stands, RunLaws.not_false, RunLaws.puts_workers, RunLaws.taken_core, RunLaws.told_core, RunLaws.posted_workers, RunLaws.collect_workers, Subsequences.skip}
 use Rattle.mum_record.specs.declared.step.Step.TheVariants as steps
-use Rattle.mum_record.specs.declared.step.Step.{Step}
-use Rattle.mum_record.specs.declared.step.Step.TheVariants.{Open, Frame, Publish, Tell, Look, Offer, Post, Drain, Collect, Close, End}
-use Rattle.mum_core.specs.Core.{CoreState, start, connection_at, worker_at, state_at}
-use Rattle.mum_core.specs.Laws.{IsCopyOf, IsOfferOf, IsRun, IsSubsequenceBy, gathered, packet_taken, sent}
-use Rattle.mum_core.specs.Lists.{changed_at}
-use Rattle.mum_core.specs.Step.{does, frame_action, frame_version, illegal}
-use Rattle.mum_core.specs.Worker.{WorkerState, HeldPacket, idle}
 use Rattle.mum_core.specs.steps.Edit as edit_step
 use Rattle.mum_core.specs.steps.Frame as frame_step
-use Rattle.mum_core.specs.steps.Frame.{spoken}
 use Rattle.mum_core.specs.steps.Look as look_step
 use Rattle.mum_core.specs.steps.Offer as offer_step
 use Rattle.mum_core.specs.steps.Tell as tell_step
-use Rattle.mum_core.proofs.Changed.{changed-by, changed_same, changed_other}
-use Rattle.mum_core.proofs.Counts.{AreClean, clean_start, clean_step, frame_hands, held_there}
-use Rattle.mum_core.proofs.Fitted.{IsLawful, lawful_start, lawful_step, state_proper}
-use Rattle.mum_core.proofs.Heard.{AreApart, IsApart, hearers_are_apart}
-use Rattle.mum_core.proofs.RunLaws.{decided_workers, drain_workers, none_stands, not_false, puts_workers, taken_core, told_core, posted_workers, collect_workers}
-use Rattle.mum_core.proofs.Subsequences.{skip}
 
 -- ---- what may still be sent
 

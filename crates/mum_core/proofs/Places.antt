@@ -1,41 +1,12 @@
 -- What a step makes of each connection. A connection stays at its worker.
-use Rattle.std.proofs.Common.{◌≡◌, ℕ, zero, suc, ◌+◌, ◌-◌, ◌<◌, ◌≤◌, Bool, true, false, cond, List, [], ◌∷◌, ◌++◌, length, map, Option, Some, None, refl, sym, ap, ◌∙◌, subst, arith, inl, inr, length-append}
-use Rattle.std.specs.Prelude.{◌⊎◌, IfSome, nat_lt, slice_index_or}
-use Rattle.std.specs.Option.{option_map, option_map_or}
-use Rattle.std.proofs.lemmas.Bool.{and_parts, lt-ltb, ltb-true}
-use Rattle.std.proofs.lemmas.List.{length-map}
-use Rattle.std.proofs.lemmas.Option.{get_or_from_slice_get}
-use Rattle.mum_base.specs.declared.number.SessionId.{SessionId}
-use Rattle.mum_state.specs.declared.verdict.Verdict.{Verdict}
-use Rattle.mum_voice.specs.Packet.{packet}
-use Rattle.mum_notify.specs.declared.notice.Notice.{Notice}
-use Rattle.mum_session.specs.declared.action.Action.{Action}
-use Rattle.mum_session.specs.declared.action.Action.TheVariants.{Ask, Voice, Keep}
-use Rattle.mum_session.specs.declared.command.Asked.{Asked}
-use Rattle.mum_core.specs.declared.connection.Connection.{Connection}
-use Rattle.mum_core.specs.declared.connection.Reply.{Reply}
-use Rattle.mum_core.specs.declared.connection.Seat.{Seat}
-use Rattle.mum_core.specs.declared.worker.Outgoing.{Outgoing}
+use Rattle.mum_core.proofs.Common.{◌≡◌, ℕ, zero, suc, ◌+◌, ◌-◌, ◌<◌, ◌≤◌, Bool, true, false, cond, List, [], ◌∷◌, ◌++◌, length, map, Option, Some, None, refl, sym, ap, ◌∙◌, subst, arith, inl, inr, length-append, ◌⊎◌, IfSome, nat_lt, slice_index_or, option_map, option_map_or, and_parts, lt-ltb, ltb-true, length-map, get_or_from_slice_get, SessionId, Verdict, packet, Notice, Action, Ask, Voice, Keep, Asked, Connection, Reply, Seat, Outgoing, Step, Open, Frame, Publish, Tell, Look, Offer, Post, Drain, Collect, Close, End, answered, asking, closed_at, fresh, is_of, lagging, next_of_frame, told, CoreState, connection_at, at_posts, at_session, is_opened, up, ran, changed_at, does, frame_action, frame_version, Queues, does_from, copy_queues, notice_queues, HeldPacket, spoken}
+use Rattle.mum_core.proofs.{Delivered.delivered, Changed.changed-by, Changed.length-changed, RunLaws.told_core, RunLaws.taken_core, RunLaws.posting_core}
 use Rattle.mum_record.specs.declared.step.Step.TheVariants as steps
-use Rattle.mum_record.specs.declared.step.Step.{Step}
-use Rattle.mum_record.specs.declared.step.Step.TheVariants.{Open, Frame, Publish, Tell, Look, Offer, Post, Drain, Collect, Close, End}
-use Rattle.mum_core.specs.Connection.{answered, asking, closed_at, fresh, is_of, lagging, next_of_frame, told}
-use Rattle.mum_core.specs.Core.{CoreState, connection_at, at_posts, at_session, is_opened, up}
-use Rattle.mum_core.specs.Laws.{ran}
-use Rattle.mum_core.specs.Lists.{changed_at}
-use Rattle.mum_core.specs.Step.{does, frame_action, frame_version}
-use Rattle.mum_core.specs.Delivery.{Queues, does_from}
-use Rattle.mum_core.specs.steps.{Drain.copy_queues, Collect.notice_queues}
-use Rattle.mum_core.proofs.Delivered.{delivered}
 use Rattle.mum_core.specs.steps.Edit as edit_step
-use Rattle.mum_core.specs.Worker.{HeldPacket}
 use Rattle.mum_core.specs.steps.Frame as frame_step
-use Rattle.mum_core.specs.steps.Frame.{spoken}
 use Rattle.mum_core.specs.steps.Offer as offer_step
 use Rattle.mum_core.specs.steps.Tell as tell_step
 use Rattle.mum_core.specs.steps.Post as post_step
-use Rattle.mum_core.proofs.Changed.{changed-by, length-changed}
-use Rattle.mum_core.proofs.RunLaws.{told_core, taken_core, posting_core}
 
 -- the connection at a place
 abbrev pub conn : CoreState → ℕ → Connection
@@ -76,7 +47,7 @@ abbrev with_change : List Connection → Option Change → List Connection
 with_change xs None = xs
 with_change xs (Some (c, change)) = cond (nat_lt 0 c) (changed_at (c - 1) change xs) xs
 
--- one is opened behind those that are there, or one at most changes, or that of a session lags
+-- one is opened after those that are there, or one at most changes, or that of a session lags
 abbrev Becomes : List Connection → Option Change → List Connection → Type 0
 Becomes old change new =
     ((w : ℕ) × (new ≡ old ++ fresh w ∷ [])) ⊎ ((new ≡ with_change old change)

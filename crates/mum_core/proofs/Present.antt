@@ -1,15 +1,6 @@
 -- What is known of the sessions of a proper state.
-use Rattle.std.proofs.Common.{◌≡◌, ℕ, ◌+◌, ◌<◌, ◌≤◌, Bool, true, false, cond, List, [], ◌∷◌, Option, Some, arith}
-use Rattle.std.specs.Prelude.{find}
-use Rattle.std.specs.List.{AllByRecursion}
-use Rattle.mum_base.specs.declared.number.SessionId.{SessionId}
-use Rattle.mum_users.specs.declared.user.User.{User}
-use Rattle.mum_users.specs.Proper.{SlotsRise}
+use Rattle.mum_core.proofs.Common.{◌≡◌, ℕ, ◌+◌, ◌<◌, ◌≤◌, Bool, true, false, cond, List, [], ◌∷◌, Option, Some, arith, find, AllByRecursion, SessionId, User, SlotsRise, has_number, IsProper, StateValue, SLOTS}
 use Rattle.mum_users.specs.Sessions.{session_of}
-use Rattle.mum_users.specs.State.{has_number}
-use Rattle.mum_state.specs.Proper.{IsProper}
-use Rattle.mum_state.specs.State.{StateValue}
-use Rattle.mum_base.specs.declared.number.TheConstants.{SLOTS}
 
 -- ---- slots are below the limit
 

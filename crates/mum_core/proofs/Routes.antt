@@ -1,12 +1,5 @@
--- The line that tells who hears a packet.
-use Rattle.std.proofs.Common.{◌≡◌, ℕ, List, [], ◌∷◌, ◌++◌, length, map, sym, ap, ◌∙◌, append_assoc}
-use Rattle.std.proofs.lemmas.List.{append-nil}
-use Rattle.std.specs.Prelude.{codes, decimal}
-use Rattle.std.specs.List.{flat_map}
-use Rattle.mum_record.specs.Words.{line_of_words}
-use Rattle.mum_route.specs.declared.hearer.Hearer.{Hearer}
-use Rattle.mum_core.specs.Line.{joined}
-use Rattle.mum_core.specs.steps.Look.{hearer_word, route_words}
+-- The line that reports who hears a packet.
+use Rattle.mum_core.proofs.Common.{◌≡◌, ℕ, List, [], ◌∷◌, ◌++◌, length, map, sym, ap, ◌∙◌, append_assoc, append-nil, codes, decimal, flat_map, line_of_words, Hearer, joined, hearer_word, route_words}
 
 words_more : (word : List ℕ) (hearers : List Hearer) → line_of_words (word ∷ map hearer_word hearers) ≡ word ++ flat_map (λ hearer. 32 ∷ hearer_word hearer) hearers
 words_more word [] = sym (append-nil word)

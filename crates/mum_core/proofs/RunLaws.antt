@@ -1,40 +1,12 @@
 -- The laws over runs, step by step.
-use Rattle.std.proofs.Common.{◌≡◌, ℕ, ◌≤◌, ◌<◌, max, Bool, true, false, cond, List, [], ◌∷◌, ◌++◌, length, drop, Option, Some, None, refl, sym, ap, ◌∙◌, arith, append_assoc, length-append}
-use Rattle.std.specs.Prelude.{not, is_none, nat_lt, slice_get, slice_index_or}
-use Rattle.std.specs.Option.{option_map_or}
-use Rattle.std.proofs.lemmas.Bool.{ltb-false, ltb-true}
-use Rattle.std.proofs.lemmas.List.{append-nil}
-use Rattle.std.proofs.lemmas.Option.{get_or_from_slice_get}
-use Rattle.mum_state.specs.declared.edit.Edit.{Edit}
-use Rattle.mum_state.specs.declared.verdict.Verdict.{Verdict}
-use Rattle.mum_state.specs.State.{StateValue}
-use Rattle.mum_voice.specs.Packet.{packet}
-use Rattle.mum_core.specs.declared.connection.Seat.{Seat}
-use Rattle.mum_core.specs.declared.worker.Outgoing.{Outgoing}
-use Rattle.mum_session.specs.declared.action.Action.{Action}
-use Rattle.mum_session.specs.declared.action.Action.TheVariants.{Voice}
-use Rattle.mum_record.specs.declared.head.Version.{Version}
+use Rattle.mum_core.proofs.Common.{◌≡◌, ℕ, ◌≤◌, ◌<◌, max, Bool, true, false, cond, List, [], ◌∷◌, ◌++◌, length, drop, Option, Some, None, refl, sym, ap, ◌∙◌, arith, append_assoc, length-append, not, is_none, nat_lt, slice_get, slice_index_or, option_map_or, ltb-false, ltb-true, append-nil, get_or_from_slice_get, Edit, Verdict, StateValue, packet, Seat, Outgoing, Action, Voice, Version, Step, Open, Frame, Publish, Tell, Look, Offer, Post, Drain, Collect, Close, End, Notice, CoreState, start, connection_at, worker_at, at_outbox, at_connection, at_worker, up, told, IsRun, ran, changed_at, edits_of, does, frame_action, frame_version, illegal, WorkerState, idle, least_look, HeldPacket, spoken, Queues, does_from, copy_queues, notice_queues}
+use Rattle.mum_core.proofs.{Delivered.delivered, Changed.changed-by, Changed.changed_same}
 use Rattle.mum_record.specs.declared.step.Step.TheVariants as steps
-use Rattle.mum_record.specs.declared.step.Step.{Step}
-use Rattle.mum_record.specs.declared.step.Step.TheVariants.{Open, Frame, Publish, Tell, Look, Offer, Post, Drain, Collect, Close, End}
-use Rattle.mum_notify.specs.declared.notice.Notice.{Notice}
-use Rattle.mum_core.specs.Core.{CoreState, start, connection_at, worker_at, at_outbox, at_connection, at_worker, up}
-use Rattle.mum_core.specs.Connection.{told}
 use Rattle.mum_core.specs.steps.Edit as edit_step
-use Rattle.mum_core.specs.Laws.{IsRun, ran}
-use Rattle.mum_core.specs.Lists.{changed_at}
-use Rattle.mum_session.specs.Verdict.{edits_of}
-use Rattle.mum_core.specs.Step.{does, frame_action, frame_version, illegal}
-use Rattle.mum_core.specs.Worker.{WorkerState, idle, least_look, HeldPacket}
 use Rattle.mum_core.specs.steps.Frame as frame_step
-use Rattle.mum_core.specs.steps.Frame.{spoken}
 use Rattle.mum_core.specs.steps.Offer as offer_step
-use Rattle.mum_core.specs.Delivery.{Queues, does_from}
-use Rattle.mum_core.specs.steps.{Drain.copy_queues, Collect.notice_queues}
-use Rattle.mum_core.proofs.Delivered.{delivered}
 use Rattle.mum_core.specs.steps.Tell as tell_step
 use Rattle.mum_core.specs.steps.Post as post_step
-use Rattle.mum_core.proofs.Changed.{changed-by, changed_same}
 
 abbrev pub Grown : CoreState → CoreState → Type 0
 Grown old new = (more : List Edit) × (new.accepted ≡ old.accepted ++ more)
@@ -84,7 +56,7 @@ posting_core core = record core { pending = drop 1 core.pending; posted = up cor
 pub posted_keeps : (core : CoreState) → Keeps core (does core Post)
 posted_keeps core = post_keeps (posting_core core) (post_step.next_notice core)
 
--- the core of a tell before its note, and that of an offer before its outbox
+-- the core of a `Tell` before its note, and that of an offer before its outbox
 abbrev pub told_core : CoreState → ℕ → CoreState
 told_core core c = at_connection c told core
 
@@ -231,7 +203,7 @@ looks_are_bounded core w revision h =
     let high : revision ≤ core.published = ltb-false core.published revision fourth.0 in
     (omega arith, omega arith, high)
 
--- where no case of a look stands, its revision is not below what was seen
+-- where no case of a look applies, its revision is not below what was seen
 hears_goes_on : (core : CoreState) (v w : ℕ) (held : Option HeldPacket) → Further (worker_at core w) (worker_at (frame_step.hears core v held) w)
 hears_goes_on core v w (Some held) = changed-by Further same_worker core.workers v w _ idle (λ x at here. same_worker x)
 hears_goes_on core v w None = same_worker (worker_at core w)

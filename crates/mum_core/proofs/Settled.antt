@@ -1,30 +1,8 @@
--- A connection keeps the seat that it was told, and one that is closed stays closed.
-use Rattle.std.proofs.Common.{◌≡◌, ℕ, ◌+◌, ◌-◌, Bool, true, false, cond, List, [], ◌∷◌, Option, Some, None, refl, sym, ap, ◌∙◌, inl, inr}
-use Rattle.std.specs.Prelude.{◌⊎◌, IfSome, nat_lt, not, is_some}
-use Rattle.std.specs.Option.{option_map, option_or}
-use Rattle.mum_base.specs.declared.number.Cause.{Cause}
-use Rattle.mum_base.specs.declared.number.SessionId.{SessionId}
-use Rattle.mum_state.specs.declared.verdict.Verdict.{Verdict}
-use Rattle.mum_state.specs.State.{StateValue}
-use Rattle.mum_session.specs.declared.action.Action.{Action}
-use Rattle.mum_session.specs.declared.action.Action.TheVariants.{Ask, Keep}
-use Rattle.mum_session.specs.declared.command.Asked.{Asked}
-use Rattle.mum_core.specs.declared.connection.Connection.{Connection}
-use Rattle.mum_core.specs.declared.connection.Reply.{Reply}
-use Rattle.mum_core.specs.declared.connection.Seat.{Seat}
-use Rattle.mum_record.specs.declared.head.Version.{Version}
+-- A connection keeps the seat that it was sent, and one that is closed stays closed.
+use Rattle.mum_core.proofs.Common.{◌≡◌, ℕ, ◌+◌, ◌-◌, Bool, true, false, cond, List, [], ◌∷◌, Option, Some, None, refl, sym, ap, ◌∙◌, inl, inr, ◌⊎◌, IfSome, nat_lt, not, is_some, option_map, option_or, Cause, SessionId, Verdict, StateValue, Action, Ask, Keep, Asked, Connection, Reply, Seat, Version, Step, Frame, Tell, Close, answered, fresh, next_command, next_of_frame, seat_given, session_of, CoreState, start, connection_at, current, is_opened, IsRun, ran, verdict, does, frame_action, frame_version, illegal}
+use Rattle.mum_core.proofs.{Lower.SeatsNext, Lower.verdict_seats, Places.Change, Places.at_place, Places.change_by, Places.change_of, Places.change_to, Places.conn, Places.each_step, Places.placed, RunLaws.none_stands}
 use Rattle.mum_record.specs.declared.step.Step.TheVariants as steps
-use Rattle.mum_record.specs.declared.step.Step.{Step}
-use Rattle.mum_record.specs.declared.step.Step.TheVariants.{Frame, Tell, Close}
-use Rattle.mum_core.specs.Connection.{answered, fresh, next_command, next_of_frame, seat_given, session_of}
-use Rattle.mum_core.specs.Core.{CoreState, start, connection_at, current, is_opened}
-use Rattle.mum_core.specs.Laws.{IsRun, ran}
-use Rattle.mum_session.specs.Verdict.{verdict}
-use Rattle.mum_core.specs.Step.{does, frame_action, frame_version, illegal}
 use Rattle.mum_core.specs.steps.Edit as edit_step
-use Rattle.mum_core.proofs.Lower.{SeatsNext, verdict_seats}
-use Rattle.mum_core.proofs.Places.{Change, at_place, change_by, change_of, change_to, conn, each_step, placed}
-use Rattle.mum_core.proofs.RunLaws.{none_stands}
 
 -- ---- the seat
 

@@ -1,47 +1,11 @@
 -- Each session is of one connection, and the packets of one speaker are all taken by one worker.
-use Rattle.std.proofs.Common.{◌≡◌, ℕ, ◌+◌, ◌-◌, ◌<◌, ◌≤◌, Bool, true, false, cond, List, [], ◌∷◌, ◌++◌, length, max, Option, Some, None, Result, Ok, Err, refl, sym, ap, subst, ◌∙◌, arith, inl, inr}
-use Rattle.std.specs.Prelude.{◌⊎◌, IfSome, not, filter, is_none, nat_lt, option_to_list, slice_index_or, ◌==◌}
-use Rattle.std.specs.Option.{option_map, option_map_or, option_or}
-use Rattle.std.proofs.lemmas.Bool.{and_parts, cases_eq, eqb-true, ltb-true}
-use Rattle.std.proofs.lemmas.List.Elements.{filter-append}
-use Rattle.std.proofs.lemmas.List.Sums.{fold-append}
-use Rattle.mum_base.specs.declared.number.AccountId.{AccountId}
-use Rattle.mum_base.specs.declared.number.SessionId.{SessionId}
-use Rattle.mum_users.specs.Sessions.{next_number, next_slot}
-use Rattle.mum_state.specs.declared.edit.Edit.{Edit}
-use Rattle.mum_state.specs.declared.edit.Edit.TheVariants.{Join}
-use Rattle.mum_state.specs.declared.verdict.Verdict.{Verdict}
-use Rattle.mum_state.specs.After.{led_to}
-use Rattle.mum_state.specs.Applied.{applied}
-use Rattle.mum_state.specs.State.{StateValue}
-use Rattle.mum_voice.specs.declared.fault.BadVoice.{BadVoice}
-use Rattle.mum_voice.specs.Packet.{Parts, packet}
-use Rattle.mum_session.specs.declared.action.Action.{Action}
-use Rattle.mum_session.specs.declared.action.Action.TheVariants.{Ask, Voice, Keep}
-use Rattle.mum_session.specs.declared.command.Asked.{Asked}
-use Rattle.mum_core.specs.declared.connection.Connection.{Connection}
-use Rattle.mum_core.specs.declared.connection.Reply.{Reply}
-use Rattle.mum_core.specs.declared.connection.Seat.{Seat}
-use Rattle.mum_record.specs.declared.head.Version.{Version}
+use Rattle.mum_core.proofs.Common.{◌≡◌, ℕ, ◌+◌, ◌-◌, ◌<◌, ◌≤◌, Bool, true, false, cond, List, [], ◌∷◌, ◌++◌, length, max, Option, Some, None, Result, Ok, Err, refl, sym, ap, subst, ◌∙◌, arith, inl, inr, ◌⊎◌, IfSome, not, filter, is_none, nat_lt, option_to_list, slice_index_or, ◌==◌, option_map, option_map_or, option_or, and_parts, cases_eq, eqb-true, ltb-true, filter-append, fold-append, AccountId, SessionId, next_number, next_slot, Edit, Join, Verdict, led_to, applied, StateValue, BadVoice, Parts, packet, Action, Ask, Voice, Keep, Asked, Connection, Reply, Seat, Version, Step, Open, Frame, Publish, Tell, Look, Offer, Post, Drain, Collect, Close, End, answered, fresh, next_command, next_of_frame, seat_given, session_of, CoreState, start, connection_at, current, worker_at, is_opened, IsRun, ran, gathered, packet_taken, edits_of, verdict, seat_of, does, frame_action, frame_version, illegal, WorkerState, HeldPacket, idle, spoken}
+use Rattle.mum_core.proofs.{Changed.changed-by, Changed.changed_other, Lower.SeatsNext, Lower.last_rises, Lower.verdict_seats, Places.Change, Places.change_by, Places.change_of, Places.change_to, Places.conn, Places.each_step, Places.place_stays, Places.placed, RunLaws.none_stands, RunLaws.not_false, RunLaws.told_core, RunLaws.taken_core, RunLaws.puts_workers, RunLaws.decided_workers, RunLaws.drain_workers, RunLaws.posted_workers, RunLaws.collect_workers, RunLaws.grown, RunLaws.same_opening}
 use Rattle.mum_record.specs.declared.step.Step.TheVariants as steps
-use Rattle.mum_record.specs.declared.step.Step.{Step}
-use Rattle.mum_record.specs.declared.step.Step.TheVariants.{Open, Frame, Publish, Tell, Look, Offer, Post, Drain, Collect, Close, End}
-use Rattle.mum_core.specs.Connection.{answered, fresh, next_command, next_of_frame, seat_given, session_of}
-use Rattle.mum_core.specs.Core.{CoreState, start, connection_at, current, worker_at, is_opened}
-use Rattle.mum_core.specs.Laws.{IsRun, ran, gathered, packet_taken}
-use Rattle.mum_session.specs.Verdict.{edits_of, verdict}
-use Rattle.mum_core.specs.Reply.{seat_of}
-use Rattle.mum_core.specs.Step.{does, frame_action, frame_version, illegal}
-use Rattle.mum_core.specs.Worker.{WorkerState, HeldPacket, idle}
 use Rattle.mum_core.specs.steps.Edit as edit_step
 use Rattle.mum_core.specs.steps.Frame as frame_step
-use Rattle.mum_core.specs.steps.Frame.{spoken}
 use Rattle.mum_core.specs.steps.Offer as offer_step
 use Rattle.mum_core.specs.steps.Tell as tell_step
-use Rattle.mum_core.proofs.Changed.{changed-by, changed_other}
-use Rattle.mum_core.proofs.Lower.{SeatsNext, last_rises, verdict_seats}
-use Rattle.mum_core.proofs.Places.{Change, change_by, change_of, change_to, conn, each_step, place_stays, placed}
-use Rattle.mum_core.proofs.RunLaws.{none_stands, not_false, told_core, taken_core, puts_workers, decided_workers, drain_workers, posted_workers, collect_workers, grown, same_opening}
 
 -- the last session number that was given
 abbrev pub count : CoreState → ℕ

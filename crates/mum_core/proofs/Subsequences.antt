@@ -1,16 +1,11 @@
--- Lists of which one stands in another, in order.
-use Rattle.std.proofs.Common.{◌≡◌, ℕ, Bool, true, false, cond, List, [], ◌∷◌, ◌++◌, map, refl, sym, ap, subst, inl, inr}
-use Rattle.std.specs.Prelude.{filter, ◌==◌}
-use Rattle.std.specs.List.{AllByRecursion}
-use Rattle.std.proofs.lemmas.Bool.{eq-eqb, eqb-false}
-use Rattle.std.proofs.lemmas.List.{append-nil}
-use Rattle.mum_core.specs.Laws.{IsSubsequence, IsSubsequenceBy}
+-- Lists of which one is in another, in order.
+use Rattle.mum_core.proofs.Common.{◌≡◌, ℕ, Bool, true, false, cond, List, [], ◌∷◌, ◌++◌, map, refl, sym, ap, subst, inl, inr, filter, ◌==◌, AllByRecursion, eq-eqb, eqb-false, append-nil, IsSubsequence, IsSubsequenceBy}
 
 pub skip : {A B : Type 0} (R : A → B → Type 0) (y : B) (xs : List A) (ys : List B) → IsSubsequenceBy R xs ys → IsSubsequenceBy R xs (y ∷ ys)
 skip R y [] ys h = tt
 skip R y (x ∷ xs) ys h = inr h
 
--- where the parts stand in the parts, the whole stands in the whole
+-- where the parts are in the parts, the whole is in the whole
 pub parts_stand : {A : Type 0} (xs ys more others : List A) → IsSubsequence xs ys → IsSubsequence more others → IsSubsequence (xs ++ more) (ys ++ others)
 parts_stand [] [] more others h k = k
 parts_stand [] (y ∷ ys) more others h k = skip (λ a b. a ≡ b) y more (ys ++ others) (parts_stand [] ys more others tt k)
@@ -18,7 +13,7 @@ parts_stand (x ∷ xs) [] more others h k = absurd h
 parts_stand (x ∷ xs) (y ∷ ys) more others (inl here) k = inl (here.0, parts_stand xs ys more others here.1 k)
 parts_stand (x ∷ xs) (y ∷ ys) more others (inr later) k = inr (parts_stand (x ∷ xs) ys more others later k)
 
--- a list stands in itself
+-- a list is in itself
 pub stands_itself : {A : Type 0} (xs : List A) → IsSubsequence xs xs
 stands_itself [] = tt
 stands_itself (x ∷ xs) = inl (refl, stands_itself xs)
@@ -30,7 +25,7 @@ stands_in_none R (x ∷ xs) h = absurd h
 pub stands_longer : {A : Type 0} (xs ys more : List A) → IsSubsequence xs ys → IsSubsequence xs (ys ++ more)
 stands_longer {A = A} xs ys more h = subst (λ (part : List A). IsSubsequence part (ys ++ more)) (append-nil xs) (parts_stand xs ys [] more h tt)
 
--- tests that agree leave what stands so in what is left
+-- tests that agree leave what is so in what is left
 pub filtered_stand : {A B : Type 0} (R : A → B → Type 0) (good : B → Type 0) (p : A → Bool) (q : B → Bool) → ((x : A) (y : B) → good y → R x y → p x ≡ q y)
     → (xs : List A) (ys : List B) → AllByRecursion good ys → IsSubsequenceBy R xs ys → IsSubsequenceBy R (filter p xs) (filter q ys)
 filtered_stand R good p q agree [] ys all h = tt
@@ -48,7 +43,7 @@ filtered_stand R good p q agree (x ∷ xs) (y ∷ ys) all (inr later) = other (q
     other true rest = skip R y (filter p (x ∷ xs)) (filter q ys) rest
     other false rest = rest
 
--- what stands in the values of a list stands so in what the list stands in
+-- what is in the values of a list is so in what the list is in
 pub stands_through : {A B C : Type 0} (R : B → C → Type 0) (S : A → C → Type 0) (f : B → A) → ((b : B) (c : C) → R b c → S (f b) c)
     → (xs : List A) (bs : List B) (ys : List C) → IsSubsequence xs (map f bs) → IsSubsequenceBy R bs ys → IsSubsequenceBy S xs ys
 stands_through R S f each [] bs ys h k = tt

@@ -1,30 +1,12 @@
 -- A step, with the line that it takes.
-use Rattle.std.proofs.Common.{◌≡◌, ℕ, Bool, true, false, cond, List, Option, Some, None, Result, Ok, inr, refl, ap, ◌∙◌}
-use Rattle.std.specs.Prelude.{◌⊎◌}
-use Rattle.std.specs.Option.{option_map_or}
-use Rattle.mum_base.specs.Refusal.{Gives}
-use Rattle.mum_state.specs.declared.verdict.Verdict.{Verdict}
-use Rattle.mum_notify.specs.declared.notice.Notice.{Notice}
-use Rattle.mum_voice.specs.Packet.{packet}
-use Rattle.mum_core.specs.declared.{connection.Seat.Seat, machine.StepFault.StepFault, worker.Outgoing.Outgoing}
-use Rattle.mum_session.specs.declared.action.Action.{Action}
-use Rattle.mum_session.specs.declared.action.Action.TheVariants.{Voice}
-use Rattle.mum_record.specs.declared.step.Step.{Step}
-use Rattle.mum_record.specs.declared.step.Step.TheVariants.{Open, Frame, Edit, Publish, Tell, Look, Offer, Post, Drain, Collect, Close, End}
-use Rattle.mum_core.specs.Case.{IsStarved, named_cause}
-use Rattle.mum_core.specs.Core.{CoreState, connection_at, at_connection, up}
-use Rattle.mum_core.specs.Connection.{told}
-use Rattle.mum_core.specs.Step.{changes, does, frame_action, frame_version, illegal}
-use Rattle.mum_core.specs.Worker.{HeldPacket}
+use Rattle.mum_core.proofs.Common.{◌≡◌, ℕ, Bool, true, false, cond, List, Option, Some, None, Result, Ok, inr, refl, ap, ◌∙◌, ◌⊎◌, option_map_or, Gives, Verdict, Notice, packet, Seat, StepFault, Outgoing, Action, Voice, Step, Open, Frame, Publish, Tell, Look, Offer, Post, Drain, Collect, Close, End, IsStarved, named_cause, CoreState, connection_at, at_connection, up, told, changes, does, frame_action, frame_version, illegal, HeldPacket, spoken, Queues, does_from, copy_queues, notice_queues}
+use Rattle.mum_record.specs.declared.step.Step.TheVariants.{Edit}
+use Rattle.mum_core.proofs.Delivered.{delivered}
 use Rattle.mum_core.specs.steps.Frame as frame_step
-use Rattle.mum_core.specs.steps.Frame.{spoken}
 use Rattle.mum_core.specs.steps.Edit as edit_step
 use Rattle.mum_core.specs.steps.Tell as tell_step
 use Rattle.mum_core.specs.steps.Offer as offer_step
 use Rattle.mum_core.specs.steps.Post as post_step
-use Rattle.mum_core.specs.Delivery.{Queues, does_from}
-use Rattle.mum_core.specs.steps.{Drain.copy_queues, Collect.notice_queues}
-use Rattle.mum_core.proofs.Delivered.{delivered}
 
 -- ---- no change of a step changes the line
 
@@ -83,7 +65,7 @@ pub done_of : (core mid new : CoreState) (step : Step) → mid ≡ changes core 
 done_of core mid new step is counted =
     counted ∙ ap (λ (m : CoreState). with_line m (up m.line)) is ∙ ap (λ (n : ℕ). with_line (changes core step) (up n)) (same_line core step)
 
--- the same of a tell, which answers what it told
+-- the same of a `Tell`, which answers what it reported
 abbrev answers : List (List ℕ) → Result (List (List ℕ)) StepFault
 answers lines = Ok lines
 

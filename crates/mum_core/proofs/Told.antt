@@ -1,20 +1,9 @@
--- Of the copies for a session that leave its slot's outbox, those that its own connection is told.
-use Rattle.std.proofs.Common.{◌≡◌, ℕ, Bool, true, false, cond, List, [], ◌∷◌, Option, Some, None, refl, ap, subst, ◌∙◌}
-use Rattle.std.specs.Prelude.{filter, ◌==◌}
-use Rattle.std.proofs.lemmas.Bool.{eqb-true}
-use Rattle.mum_state.specs.State.{StateValue}
-use Rattle.mum_core.specs.declared.connection.Seat.{Seat}
-use Rattle.mum_core.specs.declared.outbox.Parcel.{Parcel}
-use Rattle.mum_record.specs.declared.head.Version.{Version}
-use Rattle.mum_record.specs.declared.step.Step.TheVariants as steps
-use Rattle.mum_record.specs.declared.step.Step.{Step}
-use Rattle.mum_record.specs.declared.step.Step.TheVariants.{Open, Frame, Publish, Tell, Look, Offer, Post, Drain, Collect, Close, End}
-use Rattle.mum_core.specs.Core.{CoreState, start, connection_at}
-use Rattle.mum_core.specs.Laws.{IsSubsequence, front, front_for, gathered, heard, own_front, removed}
-use Rattle.mum_core.specs.Step.{does}
+-- Of the copies for a session that leave its slot's outbox, those that its own connection is sent.
+use Rattle.mum_core.proofs.Common.{◌≡◌, ℕ, Bool, true, false, cond, List, [], ◌∷◌, Option, Some, None, refl, ap, subst, ◌∙◌, filter, ◌==◌, eqb-true, StateValue, Seat, Parcel, Version, Step, Open, Frame, Publish, Tell, Look, Offer, Post, Drain, Collect, Close, End, CoreState, start, connection_at, IsSubsequence, front, front_for, gathered, heard, own_front, removed, does}
 use Rattle.mum_core.proofs.Subsequences.{parts_stand, stands_itself}
+use Rattle.mum_record.specs.declared.step.Step.TheVariants as steps
 
--- where the seat is of the session, all that leaves the outbox for the session is told
+-- where the seat is of the session, all that leaves the outbox for the session is sent
 pub own_is_removed : (n : ℕ) (core : CoreState) (seat : Seat) → seat.session.0 ≡ n → own_front core (Some seat) ≡ filter (λ parcel. parcel.to.0 == n) (front core (Some seat))
 own_is_removed n core seat same = ap (λ (k : ℕ). filter (λ parcel. parcel.to.0 == k) (front core (Some seat))) same
 
@@ -55,6 +44,6 @@ other_by : (n : ℕ) (core : CoreState) (seat : Seat) (b : Bool) → (seat.sessi
 other_by n core seat true e other = absurd (other (eqb-true seat.session.0 n e))
 other_by n core seat false e other = refl
 
--- the connection of another session is told none of them
+-- the connection of another session is sent none of them
 pub others_hear_none : (core : CoreState) (n c : ℕ) (seat : Seat) → (connection_at core c).seat ≡ Some seat → (seat.session.0 ≡ n → ⊥) → heard n core (Drain c) ≡ []
 others_hear_none core n c seat is other = ap (front_for n core) is ∙ other_by n core seat (seat.session.0 == n) refl other

@@ -1,17 +1,12 @@
 -- The core with what its workers keep of earlier looks.
 use Rattle.std.specs.Prelude.{◌≡◌, ◌⊎◌, ℕ, Bool, true, false, List, Option, Some, None, Result, Ok, Err, IsSome, length, slice_index_or}
 use Rattle.std.specs.Option.{ForSome}
+use Rattle.mum_record.specs.declared.step.Step.{Step, TheVariants.Look}
 use Rattle.mum_state.specs.State.{StateValue}
 use Rattle.mum_cache.specs.declared.{caches.Caches.Caches, routes.RouteEntry.RouteEntry}
-use Rattle.mum_cache.specs.Caches.{AreSound}
-use Rattle.mum_cache.specs.Routes.{KeepsAsked, no_routes}
-use Rattle.mum_record.specs.declared.step.Step.{Step}
-use Rattle.mum_record.specs.declared.step.Step.TheVariants.{Look}
-use Rattle.mum_core.specs.declared.machine.StepFault.{StepFault}
-use Rattle.mum_core.specs.declared.machine.StepFault.TheVariants.{Illegal, OutOfMemory}
-use Rattle.mum_core.specs.Core.{CoreState, state_at, worker_at}
-use Rattle.mum_core.specs.Lists.{changed_at}
-use Rattle.mum_core.specs.Worker.{HeldPacket}
+use Rattle.mum_cache.specs.{Caches.AreSound, Routes.KeepsAsked, Routes.no_routes}
+use Rattle.mum_core.specs.declared.machine.StepFault.{StepFault, TheVariants.Illegal, TheVariants.OutOfMemory}
+use Rattle.mum_core.specs.{Core.CoreState, Core.state_at, Core.worker_at, Lists.changed_at, Worker.HeldPacket}
 
 pub record CachedCore : Type 0 where
   pub state : CoreState

@@ -1,14 +1,12 @@
 -- What a connection is to the steps.
 use Rattle.std.specs.Prelude.{ℕ, ◌+◌, ◌||◌, ◌==◌, Bool, true, false, List, [], Option, Some, None, is_some, if◌then◌else◌}
 use Rattle.std.specs.Option.{option_and_then, option_map, option_map_or, option_or}
-use Rattle.mum_base.specs.declared.number.SessionId.{SessionId}
-use Rattle.mum_base.specs.declared.reply.Mark.{Mark}
+use Rattle.mum_base.specs.declared.{number.SessionId.SessionId, reply.Mark.Mark}
 use Rattle.mum_base.specs.declared.reply.Mark.TheVariants.{Accepted, Rejected}
-use Rattle.mum_rules_user.specs.declared.message.UserMessage.TheVariants as messages
-use Rattle.mum_session.specs.declared.command.Asked.{Asked}
-use Rattle.mum_session.specs.declared.command.Asked.TheVariants.{User}
-use Rattle.mum_core.specs.declared.{connection.Connection.Connection, connection.Leave.Leave, connection.Reply.Reply, connection.Seat.Seat}
+use Rattle.mum_session.specs.declared.command.Asked.{Asked, TheVariants.User}
+use Rattle.mum_core.specs.declared.connection.{Connection.Connection, Leave.Leave, Reply.Reply, Seat.Seat}
 use Rattle.mum_core.specs.declared.connection.Leave.TheVariants.{Stays, Waits, Leads, Decided}
+use Rattle.mum_rules_user.specs.declared.message.UserMessage.TheVariants as messages
 
 -- a connection that asked for nothing yet, at this worker
 abbrev pub fresh : ℕ → Connection
@@ -49,11 +47,12 @@ abbrev pub count_of : {A : Type 0} → Option A → ℕ
 count_of None = 0
 count_of (Some x) = 1
 
--- its commands that were not decided yet, or not told
+-- its commands that were not decided yet, or not answered
 abbrev pub untold : Connection → ℕ
-untold connection = count_of connection.waiting + count_of (leave_waiting connection.leave) + count_of connection.decided
+untold connection =
+    count_of connection.waiting + count_of (leave_waiting connection.leave) + count_of connection.decided
 
--- whether the command of a frame of it was not told yet; a leave is not told
+-- whether the command of a frame of it was not answered yet; a leave is not answered
 abbrev pub is_untold : Connection → Bool
 is_untold connection = is_some connection.waiting || is_some connection.decided
 
@@ -67,7 +66,7 @@ abbrev pub is_rejected : Mark → Bool
 is_rejected (Rejected kind) = true
 is_rejected others = false
 
--- the revision of the edit that a mark tells of; 0 where it tells of none
+-- the revision of the edit that a mark reports; 0 where it reports none
 abbrev pub revision_of : Mark → ℕ
 revision_of (Accepted revision) = revision
 revision_of others = 0
@@ -76,11 +75,11 @@ revision_of others = 0
 abbrev pub seat_given : Option Reply → Option Seat
 seat_given reply = option_and_then (λ reply. reply.seat) reply
 
--- the seat that its accepted login gave it, told or not
+-- the seat that its accepted login gave it, sent or not
 abbrev pub seat_accepted : Connection → Option Seat
 seat_accepted connection = option_or (seat_given connection.decided) connection.seat
 
--- the session that its accepted login gave it, told or not: the actor of its commands
+-- the session that its accepted login gave it, sent or not: the actor of its commands
 abbrev pub session_of : Connection → Option SessionId
 session_of connection = option_map (λ seat. seat.session) (seat_accepted connection)
 
@@ -101,7 +100,7 @@ wire_of connection = if is_some connection.closed then [] else wire_in connectio
 
 -- ---- what becomes of it
 
--- what its reply gives it is its own once it is told, and a rejection is told once and for all
+-- what its reply gives it is its own once it is sent, and a rejection is sent once and for all
 abbrev pub told : Connection → Connection
 told connection = record connection {
   seat = seat_accepted connection;
@@ -109,7 +108,7 @@ told connection = record connection {
   decided = None;
 }
 
--- the command of its frame waits, behind a leave that waits already
+-- the command of its frame waits, after a leave that waits already
 abbrev pub followed : Leave → Leave
 followed Waits = Leads
 followed others = others
@@ -117,12 +116,12 @@ followed others = others
 abbrev pub asking : Asked → Connection → Connection
 asking what connection = record connection { waiting = Some what; leave = followed connection.leave }
 
--- the command of its frame is answered by a reply that waits to be told; its leave is answered by none
+-- the command of its frame is answered by a reply that waits to be sent; its leave is answered by none
 abbrev pub answered : Option Asked → Reply → Connection → Connection
 answered (Some what) reply connection = record connection { waiting = None; decided = Some reply }
 answered None reply connection = record connection { leave = Decided }
 
--- a leave is put behind what waits of it, once
+-- a leave is put after what waits of it, once
 abbrev pub leaving : Leave → Leave
 leaving Stays = Waits
 leaving others = others

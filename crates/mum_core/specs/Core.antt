@@ -1,18 +1,13 @@
 -- The core as plain data, and the changes of one connection, one worker or one outbox.
 use Rattle.std.specs.Prelude.{ℕ, ◌+◌, ◌-◌, ◌^◌, ◌&&◌, min, Bool, List, [], ◌∷◌, length, map, replicate, nat_lt, slice_index_or, if◌then◌else◌}
-use Rattle.mum_base.specs.declared.{number.SessionId.SessionId, number.TheConstants.SLOTS}
-use Rattle.mum_state.specs.declared.edit.Edit.{Edit}
-use Rattle.mum_state.specs.declared.edit.Edit.TheVariants.{SetLimits}
-use Rattle.mum_state.specs.After.{at, led_to}
-use Rattle.mum_state.specs.State.{StateValue}
-use Rattle.mum_notify.specs.declared.notice.Notice.{Notice}
+use Rattle.mum_base.specs.declared.number.{SessionId.SessionId, TheConstants.SLOTS}
 use Rattle.mum_record.specs.Head.{first_step_line}
-use Rattle.mum_record.specs.declared.head.Version.{Version}
-use Rattle.mum_record.specs.declared.head.Version.TheVariants.{One, Two}
+use Rattle.mum_record.specs.declared.head.Version.{Version, TheVariants.One, TheVariants.Two}
+use Rattle.mum_state.specs.declared.edit.Edit.{Edit, TheVariants.SetLimits}
+use Rattle.mum_state.specs.{After.at, After.led_to, State.StateValue}
+use Rattle.mum_notify.specs.declared.notice.Notice.{Notice}
 use Rattle.mum_core.specs.declared.{connection.Connection.Connection, machine.Totals.Totals, outbox.Parcel.Parcel}
-use Rattle.mum_core.specs.Connection.{fresh, is_of}
-use Rattle.mum_core.specs.Lists.{changed_at}
-use Rattle.mum_core.specs.Worker.{WorkerState, idle}
+use Rattle.mum_core.specs.{Connection.fresh, Connection.is_of, Lists.changed_at, Worker.WorkerState, Worker.idle}
 
 pub record CoreState : Type 0 where
   -- the state before all accepted edits
@@ -21,7 +16,7 @@ pub record CoreState : Type 0 where
   pub accepted : List Edit
   -- how many of them are published
   pub published : ℕ
-  -- connection n stands at place n - 1
+  -- connection n is at place n - 1
   pub connections : List Connection
   pub workers : List WorkerState
   -- the voice copies that wait for the connection of each slot, the oldest first
@@ -33,10 +28,10 @@ pub record CoreState : Type 0 where
   -- how many notices were posted, or found the posts of their slot full
   pub posted : ℕ
   pub totals : Totals
-  -- the number of the last line that was taken: the steps stand behind the lines of the head
+  -- the number of the last line that was taken: the steps come after the lines of the head
   pub line : ℕ
 
--- the core of this many workers at an opening state, that nothing happened to: its steps stand in a recording of this
+-- the core of this many workers at an opening state, that nothing happened to: its steps are in a recording of this
 -- version
 abbrev pub start : Version → StateValue → ℕ → CoreState
 start version opening workers =
@@ -59,7 +54,7 @@ abbrev pub version_of : List Edit → Version
 version_of (SetLimits sessions channels ∷ edits) = Two
 version_of edits = One
 
--- the state after the first so many accepted edits, and after all of them
+-- the state after the first n accepted edits, and after all of them
 abbrev pub state_at : CoreState → ℕ → StateValue
 state_at core revision = at core.opening core.accepted revision
 
@@ -97,11 +92,14 @@ at_outbox slot change core = record core { outboxes = changed_at slot change cor
 abbrev pub at_posts : ℕ → (List Notice → List Notice) → CoreState → CoreState
 at_posts slot change core = record core { posts = changed_at slot change core.posts }
 
--- the connection that an accepted login gave the session is changed, told of it or not
+-- the connection that an accepted login gave the session is changed, notified of it or not
 abbrev pub at_session : SessionId → (Connection → Connection) → CoreState → CoreState
 at_session session change core =
-    record core { connections = map (λ connection. if is_of session connection then change connection else connection) core.connections }
+    record core {
+      connections = map
+          (λ connection. if is_of session connection then change connection else connection) core.connections;
+    }
 
--- a count of 64 bits that rises, and stands still at its last value
+-- a count of 64 bits that rises, and stays at its last value
 abbrev pub up : ℕ → ℕ
 up count = min (count + 1) (2 ^ 64 - 1)

@@ -3,8 +3,7 @@
 use Rattle.std.specs.Prelude.{ℕ, ◌==◌, Bool, List, [], ◌∷◌, Option, Some, None, is_none, codes, decimal, if◌then◌else◌}
 use Rattle.mum_base.specs.declared.number.SessionId.{SessionId}
 use Rattle.mum_core.specs.declared.connection.Seat.{Seat}
-use Rattle.mum_core.specs.Case.{Case, is_closed, not_opened}
-use Rattle.mum_core.specs.Core.{CoreState, connection_at, up}
+use Rattle.mum_core.specs.{Case.Case, Case.is_closed, Case.not_opened, Core.CoreState, Core.connection_at, Core.up}
 use Rattle.mum_core.specs.Line.{wire_words}
 
 -- what waits for a session, and the frame by which it comes on the wire
@@ -19,7 +18,9 @@ pub record Queues : Type 0 where
 
 -- a connection that is closed or has no seat takes nothing
 abbrev pub forbids : CoreState → ℕ → List Case
-forbids core c = not_opened core c ∷ is_closed core c ∷ record { stands = is_none (connection_at core c).seat; given = c; against = 0 } ∷ []
+forbids core c =
+    not_opened core c ∷ is_closed core c
+    ∷ record { stands = is_none (connection_at core c).seat; given = c; against = 0 } ∷ []
 
 abbrev pub is_for : SessionId → Seat → Bool
 is_for to seat = to.0 == seat.session.0

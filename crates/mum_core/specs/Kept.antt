@@ -1,11 +1,10 @@
 -- What the core and its parts keep true of their fields.
 use Rattle.std.specs.Prelude.{◌≡◌, ◌≤◌, List, [], length, Result, Ok, Err}
 use Rattle.std.specs.List.{All}
+use Rattle.mum_base.specs.declared.number.TheConstants.{SLOTS}
 use Rattle.mum_voice.specs.declared.fault.BadVoice.{BadVoice}
 use Rattle.mum_voice.specs.Packet.{Parts}
-use Rattle.mum_base.specs.declared.number.TheConstants.{SLOTS}
-use Rattle.mum_history.specs.History.{HistoryValue}
-use Rattle.mum_history.specs.View.{IsViewOf, ViewValue}
+use Rattle.mum_history.specs.{History.HistoryValue, View.IsViewOf, View.ViewValue}
 use Rattle.mum_notify.specs.declared.notice.Notice.{Notice}
 use Rattle.mum_core.specs.declared.outbox.Parcel.{Parcel}
 use Rattle.mum_core.specs.Worker.{WorkerState}

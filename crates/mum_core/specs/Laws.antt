@@ -1,17 +1,14 @@
 -- Runs of allowed steps.
 use Rattle.std.specs.Prelude.{◌≡◌, ℕ, ◌+◌, ◌==◌, ◌&&◌, ◌⊎◌, Bool, false, List, [], ◌∷◌, ◌++◌, fold, filter, length, map, take, Option, Some, None, is_none, option_to_list, if◌then◌else◌}
 use Rattle.std.specs.Option.{option_map, option_map_or}
-use Rattle.mum_voice.specs.Packet.{copy}
-use Rattle.mum_voice.specs.Varint.{word_at}
-use Rattle.mum_notify.specs.declared.notice.Notice.{Notice}
+use Rattle.mum_voice.specs.{Packet.copy, Varint.word_at}
 use Rattle.mum_record.specs.declared.step.Step.{Step}
 use Rattle.mum_record.specs.declared.step.Step.TheVariants.{Edit, Look, Offer, Post, Drain, Collect}
+use Rattle.mum_notify.specs.declared.notice.Notice.{Notice}
 use Rattle.mum_core.specs.Core.{CoreState, current, state_at, connection_at, worker_at, outbox_at, posts_at}
-use Rattle.mum_core.specs.Step.{does, illegal}
+use Rattle.mum_core.specs.{Step.does, Step.illegal, Worker.HeldPacket, Delivery.is_for, steps.Look.audience}
+use Rattle.mum_core.specs.steps.Offer.{has_room}
 use Rattle.mum_core.specs.declared.{connection.Seat.Seat, outbox.Parcel.Parcel, worker.Outgoing.Outgoing}
-use Rattle.mum_core.specs.Worker.{HeldPacket}
-use Rattle.mum_core.specs.Delivery.{is_for}
-use Rattle.mum_core.specs.steps.{Look.audience, Offer.has_room}
 use Rattle.mum_core.specs.steps.Edit as edit_step
 use Rattle.mum_core.specs.steps.Post as post_step
 
@@ -26,7 +23,8 @@ ran core steps = fold does core steps
 -- the sizes of the audiences that the looks of a run find
 abbrev pub looked : CoreState → List Step → ℕ
 looked core [] = 0
-looked core (Look w revision ∷ steps) = length (audience (state_at core revision) (worker_at core w).held) + looked (does core (Look w revision)) steps
+looked core (Look w revision ∷ steps) =
+    length (audience (state_at core revision) (worker_at core w).held) + looked (does core (Look w revision)) steps
 looked core (step ∷ steps) = looked (does core step) steps
 
 -- what the steps of a run add to a list, in their order
@@ -36,11 +34,14 @@ gathered adds core (step ∷ steps) = adds core step ++ gathered adds (does core
 
 -- the packet that worker v takes in a step
 abbrev pub packet_taken : ℕ → CoreState → Step → List HeldPacket
-packet_taken v core step = if is_none (worker_at core v).held then option_to_list (worker_at (does core step) v).held else []
+packet_taken v core step =
+    if is_none (worker_at core v).held then option_to_list (worker_at (does core step) v).held else []
 
--- the copy for session n that a step puts into an outbox, behind the worker that offers it
+-- the copy for session n that a step puts into an outbox, after the worker that offers it
 abbrev pub sent : ℕ → CoreState → Step → List (ℕ × Outgoing)
-sent n core (Offer w) = map (λ copy. (w, copy)) (filter (λ copy. (copy.to.0 == n) && has_room core copy.slot.0) (take 1 (worker_at core w).copies))
+sent n core (Offer w) =
+    map (λ copy. (w, copy))
+    (filter (λ copy. (copy.to.0 == n) && has_room core copy.slot.0) (take 1 (worker_at core w).copies))
 sent n core step = []
 
 -- the oldest copy in the outbox of a seat
@@ -53,12 +54,12 @@ abbrev pub removed : ℕ → CoreState → Step → List Parcel
 removed n core (Drain c) = filter (λ parcel. parcel.to.0 == n) (front core (connection_at core c).seat)
 removed n core step = []
 
--- of a copy that was taken out of the outbox of a seat, what its connection is told: a copy for another session is dropped
+-- of a copy that was taken out of the outbox of a seat, what its connection is sent: a copy for another is dropped
 abbrev pub own_front : CoreState → Option Seat → List Parcel
 own_front core None = []
 own_front core (Some seat) = filter (λ parcel. is_for parcel.to seat) (front core (Some seat))
 
--- the copy that a step tells a connection
+-- the copy that a step sends to a connection
 abbrev pub wired : CoreState → Step → List Parcel
 wired core (Drain c) = own_front core (connection_at core c).seat
 wired core step = []
@@ -111,14 +112,14 @@ abbrev pub own_notice : CoreState → Option Seat → List Notice
 own_notice core None = []
 own_notice core (Some seat) = filter (λ notice. is_for notice.to seat) (front_notice core (Some seat))
 
--- the notice that a step tells a connection
+-- the notice that a step sends to a connection
 abbrev pub told_notice : CoreState → Step → List Notice
 told_notice core (Collect c) = own_notice core (connection_at core c).seat
 told_notice core step = []
 
 -- ---- order
 
--- each of the first list stands so to one of the second, in their order, and no two to the same
+-- each of the first list is so related to one of the second, in their order, and no two to the same
 abbrev pub IsSubsequenceBy : {A B : Type 0} → (A → B → Type 0) → List A → List B → Type 0
 IsSubsequenceBy R [] ys = Unit {0}
 IsSubsequenceBy R (x ∷ xs) [] = ⊥
@@ -128,14 +129,15 @@ IsSubsequenceBy R (x ∷ xs) (y ∷ ys) = (R x y × IsSubsequenceBy R xs ys) ⊎
 abbrev pub IsSubsequence : {A : Type 0} → List A → List A → Type 0
 IsSubsequence xs ys = IsSubsequenceBy (λ x y. x ≡ y) xs ys
 
--- the copy is of the packet, with its position or without; behind a worker, the same of an offer
+-- the copy is of the packet, with its position or without; after a worker, the same of an offer
 abbrev pub IsCopyOf : Outgoing → HeldPacket → Type 0
-IsCopyOf outgoing held = (with_position : Bool) × (outgoing.bytes ≡ copy held.parts held.speaker.0 outgoing.context with_position)
+IsCopyOf outgoing held =
+    (with_position : Bool) × (outgoing.bytes ≡ copy held.parts held.speaker.0 outgoing.context with_position)
 
 abbrev pub IsOfferOf : (ℕ × Outgoing) → HeldPacket → Type 0
 IsOfferOf offer held = IsCopyOf offer.1 held
 
--- the session whose packet it is, which stands behind the first byte of a copy
+-- the session whose packet it is, which comes after the first byte of a copy
 abbrev pub speaker_in : List ℕ → Option ℕ
 speaker_in [] = None
 speaker_in (first ∷ bytes) = option_map (λ read. read.0) (word_at bytes)
@@ -145,7 +147,8 @@ is_by speaker bytes = option_map_or (λ n. n == speaker) (speaker_in bytes) fals
 
 -- the bytes are a copy of the packet, in some context, with its position or without
 abbrev pub AreBytesOf : List ℕ → HeldPacket → Type 0
-AreBytesOf bytes held = (context : ℕ) × (with_position : Bool) × (bytes ≡ copy held.parts held.speaker.0 context with_position)
+AreBytesOf bytes held =
+    (context : ℕ) × (with_position : Bool) × (bytes ≡ copy held.parts held.speaker.0 context with_position)
 
 abbrev pub IsParcelOf : Parcel → HeldPacket → Type 0
 IsParcelOf parcel held = AreBytesOf parcel.bytes held

@@ -6,7 +6,7 @@ use Rattle.mum_session.specs.declared.session.Stage.TheVariants.{BeforeLogin, Lo
 use Rattle.mum_session.specs.Machine.{Machine}
 use Rattle.mum_core.specs.declared.connection.Connection.{Connection}
 
--- how far it has come: it is told that its login was rejected, or has the seat that a told login gave it
+-- how far it has come: it is notified that its login was rejected, or has the seat that an accepted login gave it
 abbrev pub stage_of : Connection → Stage
 stage_of connection =
     if connection.rejected then Rejected

@@ -5,9 +5,8 @@ use Rattle.mum_record.specs.declared.step.Step.{Step}
 use Rattle.mum_record.specs.declared.step.Step.TheVariants.{Open, Frame, Edit, Publish, Tell, Look, Offer, Post, Drain, Collect, Close, End}
 use Rattle.mum_session.specs.declared.action.Action.{Action}
 use Rattle.mum_session.specs.Action.{action, after_frame}
-use Rattle.mum_core.specs.Case.{Case, first_that_stands}
-use Rattle.mum_core.specs.Core.{CoreState, connection_at, up}
-use Rattle.mum_core.specs.Machine.{machine_of}
+use Rattle.mum_core.specs.{Case.Case, Case.first_that_stands, Core.CoreState, Core.connection_at, Core.up}
+use Rattle.mum_core.specs.{Machine.machine_of, steps.Drain.copy_queues, steps.Collect.notice_queues}
 use Rattle.mum_core.specs.Delivery as delivery
 use Rattle.mum_core.specs.steps.Open as open_step
 use Rattle.mum_core.specs.steps.Frame as frame_step
@@ -17,7 +16,6 @@ use Rattle.mum_core.specs.steps.Tell as tell_step
 use Rattle.mum_core.specs.steps.Look as look_step
 use Rattle.mum_core.specs.steps.Offer as offer_step
 use Rattle.mum_core.specs.steps.Post as post_step
-use Rattle.mum_core.specs.steps.{Drain.copy_queues, Collect.notice_queues}
 use Rattle.mum_core.specs.steps.Close as close_step
 use Rattle.mum_core.specs.steps.End as end_step
 
@@ -27,7 +25,8 @@ frame_action core c bytes = action (machine_of c (connection_at core c)) (kind_o
 
 -- the number of the last Version of the connection that has one, with the frame
 abbrev pub frame_version : CoreState → ℕ → List ℕ → Option ℕ
-frame_version core c bytes = (after_frame (machine_of c (connection_at core c)) (kind_of bytes) (payload_of bytes)).version
+frame_version core c bytes =
+    (after_frame (machine_of c (connection_at core c)) (kind_of bytes) (payload_of bytes)).version
 
 abbrev pub forbids : CoreState → Step → List Case
 forbids core (Open c w) = open_step.forbids core c w
@@ -80,7 +79,7 @@ lines core End = end_step.lines core
 abbrev pub illegal : CoreState → Step → Option (ℕ × ℕ)
 illegal core step = first_that_stands (forbids core step)
 
--- whether a step is a tell, which alone may tell two lines
+-- whether a step is a `Tell`, which alone may report two lines
 abbrev pub is_tell : Step → Bool
 is_tell (Tell c revision) = true
 is_tell others = false

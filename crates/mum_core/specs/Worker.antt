@@ -12,7 +12,7 @@ pub record HeldPacket : Type 0 where
 pub record WorkerState : Type 0 where
   -- the revision of its last look
   pub seen : ℕ
-  -- the greatest revision that its connections were told
+  -- the greatest revision of which its connections were notified
   pub told : ℕ
   -- the packet that it took and has not looked for yet
   pub held : Option HeldPacket

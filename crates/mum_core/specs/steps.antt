@@ -1,4 +1,4 @@
--- The steps, each in a file of its own: what forbids it, what it does, and the lines that it tells.
+-- The steps, each in a file of its own: what forbids it, what it does, and the lines that it reports.
 pub mod Open
 pub mod Frame
 pub mod Edit

@@ -33,7 +33,7 @@ impl Model for Core {
     ghost invariant = { λ c. EachIsSound c.machine c.caches.items };
 }
 
-/// The version of a recording whose steps begin after these edits.
+// The version of a recording whose steps begin after these edits.
 fn version_of(edits: &[Edit]) -> Version
     ensures { result ≡ version_of edits.now }
 {
@@ -57,7 +57,7 @@ impl Core {
     ghost use Rattle.mum_core.specs.Line.{joined};
     ghost use Rattle.mum_core.specs.Step.{does, illegal, is_tell, lines};
 
-    /// A core of so many workers that nothing happened to, at this state; its steps stand in a recording of
+    /// A core of n workers that nothing happened to, at this state; its steps are in a recording of
     /// this version. The edits that lead to the state are no part of its accepted ones: revisions count from
     /// here on.
     pub fn begin(
@@ -89,7 +89,7 @@ impl Core {
         }
     }
 
-    /// The same at the state after edits of which each fits where it stands. Its first step stands at line 5
+    /// The same at the state after edits of which each fits in its place. Its first step is at line 5
     /// where the first of the edits sets the limits, and else at line 4.
     pub fn open(alloc: Global, workers: u8, edits: &[Edit]) -> Result<Core, OutOfMemory>
         requires { IsTrue (all_fit empty_state edits.now) }
@@ -104,7 +104,7 @@ impl Core {
         )
     }
 
-    /// Takes a step, and appends the lines that the transcript gains, parted by line feeds. A refusal
+    /// Takes a step, and appends the lines that the transcript gains, separated by line feeds. A refusal
     /// leaves the state as it was: `Illegal` has the two numbers of the first case that forbids the step.
     /// After a refusal the text may have been added to.
     ///
@@ -113,7 +113,8 @@ impl Core {
     pub fn take(&mut self, step: &Step, text: &mut String) -> Result<(), StepFault>
         requires recordable { IsRecordable step.now }
         ensures settled { Settles named_cause (illegal self.old.state step.now) (does self.old.state step.now) self.old.state result self.new.state }
-        ensures told { OnOk result (string_bytes text.new ≡ string_bytes text.old ++ joined (lines self.old.state step.now)) }
+        ensures told { OnOk result
+            (string_bytes text.new ≡ string_bytes text.old ++ joined (lines self.old.state step.now)) }
         ensures caches { Caching self.old step.now result self.new.caches }
     {
         let Step::Look { worker, revision } = *step else {
@@ -122,23 +123,25 @@ impl Core {
         self.take_look(worker, revision, text)
     }
 
-    /// Takes a step that is not a look.
+    // Takes a step that is not a look.
     fn take_other(&mut self, step: &Step, text: &mut String) -> Result<(), StepFault>
         requires recordable { IsRecordable step.now }
         requires other { is_look step.now ≡ false }
         ensures settled { Settles named_cause (illegal self.old.state step.now) (does self.old.state step.now) self.old.state result self.new.state }
-        ensures told { OnOk result (string_bytes text.new ≡ string_bytes text.old ++ joined (lines self.old.state step.now)) }
+        ensures told { OnOk result
+            (string_bytes text.new ≡ string_bytes text.old ++ joined (lines self.old.state step.now)) }
         ensures caches { self.new.caches ≡ self.old.caches }
     {
         self.machine.know_edits();
         self.machine.take(step, text)
     }
 
-    /// Takes a look. Its worker is without caches while it looks, so that none are left that are ahead of what
-    /// it saw.
+    // Takes a look. Its worker is without caches while it looks, so that none are left that are ahead of what
+    // it saw.
     fn take_look(&mut self, worker: u32, revision: u64, text: &mut String) -> Result<(), StepFault>
         ensures settled { Settles named_cause (illegal self.old.state (Look worker revision)) (does self.old.state (Look worker revision)) self.old.state result self.new.state }
-        ensures told { OnOk result (string_bytes text.new ≡ string_bytes text.old ++ joined (lines self.old.state (Look worker revision))) }
+        ensures told { OnOk result
+            (string_bytes text.new ≡ string_bytes text.old ++ joined (lines self.old.state (Look worker revision))) }
         ensures caches { Caching self.old (Look worker revision) result self.new.caches }
     {
         self.machine.know_edits();
@@ -179,7 +182,7 @@ impl Core {
         self.machine.step_tell(connection, revision)
     }
 
-    /// The same of a step that tells one line.
+    // The same of a step that reports one line.
     fn step_alone(&mut self, step: &Step) -> Result<Effects, StepFault>
         requires recordable { IsRecordable step.now }
         requires alone { is_tell step.now ≡ false }
@@ -193,12 +196,14 @@ impl Core {
         }
     }
 
-    /// The same with room for what it tells, as one text.
+    // The same with room for what it reports, as one text.
     fn step_into(&mut self, step: &Step, mut room: Vec<Text>) -> Result<Effects, StepFault>
         requires recordable { IsRecordable step.now }
         requires nothing { room.items ≡ [] }
         requires room { vec_len room < vec_capacity room }
-        ensures state { Gives named_cause (illegal self.old.state step.now) (joined (lines self.old.state step.now) ∷ []) (does self.old.state step.now) self.old.state result self.new.state }
+        ensures state { Gives named_cause (illegal self.old.state step.now)
+            (joined (lines self.old.state step.now) ∷ [])
+            (does self.old.state step.now) self.old.state result self.new.state }
         ensures caches { Caching self.old step.now result self.new.caches }
     {
         let mut text = String::new(self.alloc);
@@ -207,7 +212,7 @@ impl Core {
         Ok(Items::from_vec(room))
     }
 
-    /// The machine, without what its workers keep.
+    // The machine, without what its workers keep.
     pub(crate) fn machine(&self) -> &Machine
         ensures { result.now ≡ self.now.state }
     {

@@ -39,7 +39,9 @@ pub fn take_own_at(
     place: usize,
 ) -> Result<Caches, OutOfMemory>
     ensures routes { IfOk result (λ own. own.routes ≡ routes_in (caches_at caches.old.items place)) }
-    ensures sound { IfOk result (λ own. (state : StateValue) → ForSome (caches_at caches.old.items place) (AreSound state) → AreSound state own) }
+    ensures sound { IfOk result
+        (λ own. (state : StateValue) → ForSome (caches_at caches.old.items place) (AreSound state)
+        → AreSound state own) }
     ensures others { caches.new.items ≡ changed_at place (λ _. None) caches.old.items }
 {
     match take_at(caches, place) {

@@ -34,7 +34,7 @@ pub struct Reply {
 pub enum Leave {
     /// The connection is there.
     Stays,
-    /// Its leave waits to be decided, behind the command of its frame, if that waits.
+    /// Its leave waits to be decided, after the command of its frame, if that waits.
     Waits,
     /// Its leave waits to be decided, before the command of its frame.
     Leads,
@@ -49,15 +49,15 @@ pub struct Connection {
     pub worker: u8,
     /// The number of its last Version that has one.
     pub version: Option<u32>,
-    /// The seat that its told login gave it.
+    /// The seat that its login gave it, once that was sent.
     pub seat: Option<Seat>,
-    /// Whether it was told that its login is rejected.
+    /// Whether it was notified that its login is rejected.
     pub rejected: bool,
     /// Whether a notice for its session found the posts of its slot full.
     pub lagged: bool,
     /// The command of its last frame, until it is decided.
     pub waiting: Option<Asked>,
-    /// The reply that it waits to be told.
+    /// The reply that waits to be sent to it.
     pub decided: Option<Reply>,
     pub leave: Leave,
     /// The number of the line at which it was closed.
@@ -65,7 +65,7 @@ pub struct Connection {
 }
 
 impl Reply {
-    /// Whether it tells that a login is rejected.
+    // Whether it reports that a login is rejected.
     fn is_rejection(&self) -> bool
         ensures { result ≡ rejects (Some self.now) }
     {
@@ -74,7 +74,7 @@ impl Reply {
 }
 
 impl Leave {
-    /// It waits to be decided, if it was not asked for before.
+    // It waits to be decided, if it was not asked for before.
     fn asked(self) -> Leave
         ensures { result ≡ leaving self }
     {
@@ -86,7 +86,7 @@ impl Leave {
         }
     }
 
-    /// A command of a frame waits behind it, if it waits already.
+    // A command of a frame waits after it, if it waits already.
     fn followed(self) -> Leave
         ensures { result ≡ followed self }
     {
@@ -98,7 +98,7 @@ impl Leave {
         }
     }
 
-    /// Whether it waits to be decided.
+    // Whether it waits to be decided.
     fn is_waiting(self) -> bool
         ensures { result ≡ is_some (leave_waiting self) }
     {
@@ -108,7 +108,7 @@ impl Leave {
         }
     }
 
-    /// Whether it is decided before the command of a frame.
+    // Whether it is decided before the command of a frame.
     fn leads(self) -> bool
         ensures { result ≡ leads self }
     {
@@ -134,7 +134,7 @@ impl Connection {
         }
     }
 
-    /// How many of its commands were not decided yet, or not told.
+    /// How many of its commands were not decided yet, or not answered.
     pub fn untold(&self) -> u64
         ensures { result ≡ untold self.now }
     {
@@ -143,7 +143,7 @@ impl Connection {
             + u64::from(self.decided.is_some())
     }
 
-    /// Whether the command of a frame of it was not told yet.
+    /// Whether the command of a frame of it was not answered yet.
     pub fn is_untold(&self) -> bool
         ensures { result ≡ is_untold self.now }
     {
@@ -160,7 +160,7 @@ impl Connection {
         self.waiting.as_ref()
     }
 
-    /// Whether the command of its frame is decided next.
+    // Whether the command of its frame is decided next.
     fn frame_is_next(&self) -> bool
         ensures { result ≡ is_some (next_of_frame self.now) }
     {
@@ -174,7 +174,7 @@ impl Connection {
         self.frame_is_next() || self.leave.is_waiting()
     }
 
-    /// How far it has come, by what it was told.
+    // How far it has come, by what it was sent.
     fn stage(&self) -> Stage
         ensures { result ≡ stage_of self.now }
     {
@@ -194,7 +194,7 @@ impl Connection {
         Session::resumed(number, self.worker, self.version, self.stage())
     }
 
-    /// The seat that its accepted login gave it, told or not.
+    // The seat that its accepted login gave it, sent or not.
     fn seat_accepted(&self) -> Option<Seat>
         ensures { result ≡ seat_accepted self.now }
     {
@@ -204,7 +204,7 @@ impl Connection {
         }
     }
 
-    /// The session that its accepted login gave it, told or not.
+    /// The session that its accepted login gave it, sent or not.
     pub fn session(&self) -> Option<SessionId>
         ensures { result ≡ session_of self.now }
     {
@@ -227,7 +227,7 @@ impl Connection {
         }
     }
 
-    /// It is told its reply.
+    // It is sent its reply.
     fn tell(&mut self)
         ensures { self.new ≡ told self.old }
     {
@@ -237,7 +237,7 @@ impl Connection {
         }
     }
 
-    /// It asks for this, behind its leave if that waits.
+    // It asks for this, after its leave if that waits.
     fn ask(&mut self, what: Asked)
         ensures { self.new ≡ asking what self.old }
     {
@@ -245,7 +245,7 @@ impl Connection {
         self.leave = self.leave.followed();
     }
 
-    /// Its next command is decided: that of its frame waits to be told this reply, a leave is not told.
+    // Its next command is decided: that of its frame waits to be sent this reply, a leave gets none.
     fn answer(&mut self, reply: Reply)
         ensures { self.new ≡ answered (next_of_frame self.old) reply self.old }
     {
@@ -257,7 +257,7 @@ impl Connection {
         }
     }
 
-    /// Whether an accepted login gave it the session.
+    // Whether an accepted login gave it the session.
     fn is_of(&self, session: SessionId) -> bool
         ensures { result ≡ is_of session self.now }
     {
@@ -267,7 +267,7 @@ impl Connection {
         }
     }
 
-    /// Where it is the connection of the session, a notice for it found the posts of its slot full.
+    // Where it is the connection of the session, a notice for it found the posts of its slot full.
     fn lag_of(&mut self, session: SessionId)
         ensures { self.new ≡ (if is_of session self.old then lagging self.old else self.old) }
     {
@@ -277,7 +277,7 @@ impl Connection {
         }
     }
 
-    /// It ends at this line, and its leave waits behind what waits of it.
+    // It ends at this line, and its leave waits after what waits of it.
     fn close(&mut self, line: u64)
         ensures { self.new ≡ closed_at line self.old }
     {
@@ -286,7 +286,7 @@ impl Connection {
     }
 }
 
-/// The connection of a session lags, told of its login or not.
+/// The connection of a session lags, notified of its login or not.
 pub fn lag_at_session(connections: &mut Vec<Connection>, session: SessionId)
     ensures { connections.new.items ≡ map (λ c. if is_of session c then lagging c else c) connections.old.items }
 {
@@ -305,7 +305,7 @@ pub fn ask_at(connections: &mut Vec<Connection>, place: usize, what: Asked)
     }
 }
 
-/// The connection at a place has told this version.
+/// The connection at a place has sent this version.
 pub fn keep_version_at(connections: &mut Vec<Connection>, place: usize, version: Option<u32>)
     ensures { connections.new.items ≡ changed_at place (λ c. record c { version = version }) connections.old.items }
 {
@@ -323,7 +323,7 @@ pub fn answer_at(connections: &mut Vec<Connection>, place: usize, reply: Reply)
     }
 }
 
-/// The connection at a place is told its reply.
+/// The connection at a place is sent its reply.
 pub fn tell_at(connections: &mut Vec<Connection>, place: usize)
     ensures { connections.new.items ≡ changed_at place told connections.old.items }
 {

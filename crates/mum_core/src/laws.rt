@@ -27,8 +27,8 @@ ghost use Rattle.mum_core.specs.steps.Look.{outgoing};
 
 use mum_base::SLOTS;
 
-/// Accepted edits are only added to, at their end, and the opening stays. Each of them fits where
-/// it stands. No more is published than was accepted, and never less than before.
+/// Accepted edits are only added to, at their end, and the opening stays. Each of them fits in
+/// its place. No more is published than was accepted, and never less than before.
 pub fn accepted_edits_are_one_list()
     ensures grows { (core : CoreState) (steps : List Step) →
         (more : List Edit) × ((ran core steps).accepted ≡ core.accepted ++ more) }
@@ -43,8 +43,8 @@ pub fn accepted_edits_are_one_list()
         let core = ran (start version opening workers) steps in core.published ≤ (ran core more).published }
 {}
 
-/// What a worker has seen and was told never falls; a look is at a published revision, and not
-/// below what its worker has seen or was told.
+/// What a worker has seen and was notified of never falls; a look is at a published revision, and not
+/// below what its worker has seen or was notified of.
 pub fn looks_go_on()
     ensures never_back { (core : CoreState) (steps : List Step) (w : ℕ) → IsRun core steps →
         ((worker_at core w).seen ≤ (worker_at (ran core steps) w).seen)
@@ -80,7 +80,7 @@ pub fn copies_are_offered_once()
 
 /// The copies that were sent, those that found their outbox full, and those that workers have left
 /// add up to the audiences that were looked for; and those that were sent, with the notices that were
-/// posted, are what was told to connections, what was dropped, and what waits: until a count stands at
+/// posted, are what was delivered to connections, what was dropped, and what waits: until a count is at
 /// the end of its type.
 pub fn each_copy_is_counted()
     ensures offered { (version : Version) (opening : StateValue) (workers : ℕ) (steps : List Step) →
@@ -97,7 +97,7 @@ pub fn each_copy_is_counted()
         ≡ core.totals.copies + length (gathered posted (start version opening workers) steps) }
 {}
 
-/// A connection stays at its worker and keeps the seat that it was told; a session is never of two
+/// A connection stays at its worker and keeps the seat that it was sent; a session is never of two
 /// connections, and the packets of one speaker are all taken by one worker. A connection that is closed
 /// stays closed: none of its frames is taken, and nothing is drained or collected for it.
 pub fn connections_stay_as_they_are()
@@ -131,7 +131,7 @@ pub fn connections_stay_as_they_are()
 /// What a worker sends to a session are copies of the packets that it took, in their order, one at most
 /// of each, and none is sent to a session that was never there. What was sent to a session left the outbox
 /// of its slot in this order, or waits there: from the offer that has room to the drain no copy is lost,
-/// doubled, changed or overtaken. Its own connection is told what it drains of that; what another
+/// doubled, changed or overtaken. Its own connection is sent what it drains of that; what another
 /// connection of the slot drains is dropped, and where there is no other, it drains all.
 pub fn copies_keep_their_order()
     ensures sent { (version : Version) (opening : StateValue) (workers w n : ℕ) (steps : List Step) →
@@ -170,7 +170,7 @@ pub fn copies_keep_their_order()
         ≡ gathered (removed seat.session.0) (start version opening workers) steps }
 {}
 
-/// What a connection is told of one speaker are copies of packets that this speaker sent, in their order,
+/// What a connection is sent of one speaker are copies of packets that this speaker sent, in their order,
 /// one at most of each: one worker took all of that speaker's packets.
 pub fn speakers_are_heard_in_order()
     ensures { (version : Version) (opening : StateValue) (workers n speaker : ℕ) (steps : List Step) →
@@ -188,8 +188,10 @@ pub fn speakers_are_heard_in_order()
 pub fn notices_keep_their_order()
     ensures posted { (version : Version) (opening : StateValue) (workers : ℕ) (steps : List Step) →
         gathered noticed (start version opening workers) steps
-        ≡ gathered offered (start version opening workers) steps ++ (ran (start version opening workers) steps).pending }
-    ensures conserved { (version : Version) (opening : StateValue) (workers slot : ℕ) (steps : List Step) → slot < SLOTS →
+        ≡ gathered offered (start version opening workers) steps
+        ++ (ran (start version opening workers) steps).pending }
+    ensures conserved { (version : Version) (opening : StateValue) (workers slot : ℕ) (steps : List Step)
+        → slot < SLOTS →
         gathered (posted_in slot) (start version opening workers) steps
         ≡ gathered (collected slot) (start version opening workers) steps
         ++ posts_at (ran (start version opening workers) steps) slot }

@@ -44,7 +44,7 @@ pub type Effects = Items<Text>;
 /// Why a step was not taken.
 #[derive(Debug, Drop, Error)]
 pub enum StepFault {
-    /// The step is not allowed now: what it gave, against what stands.
+    /// The step is not allowed now: what it gave, against what is expected.
     #[error("given {given} against {against}")]
     Illegal { given: u64, against: u64 },
     #[error("out of memory")]
@@ -62,14 +62,14 @@ impl From<AllocError> for StepFault {
     }
 }
 
-/// The fault of a step that is not allowed.
+// The fault of a step that is not allowed.
 fn illegal(given: u64, against: u64) -> StepFault
     ensures { result ≡ Illegal given against }
 {
     StepFault::Illegal { given, against }
 }
 
-/// How much was looked for, sent, and not sent. Each count stands still at the end of its type.
+/// How much was looked for, sent, and not sent. Each count stays at the end of its type.
 #[derive(Clone, Copy)]
 pub struct Totals {
     pub looks: u64,
@@ -124,7 +124,7 @@ impl Model for Machine {
     ghost invariant = { λ c. IsKept c.history c.views.items c.workers.items c.outboxes.items c.posts.items };
 }
 
-/// Workers that have done nothing.
+// Workers that have done nothing.
 fn idle_workers(alloc: Global, count: u8) -> Result<Vec<Worker>, OutOfMemory>
     ensures idle { IfOk result (λ workers. workers.items ≡ replicate count idle) }
     ensures count { IfOk result (λ workers. length workers.items ≡ count) }
@@ -136,7 +136,7 @@ fn idle_workers(alloc: Global, count: u8) -> Result<Vec<Worker>, OutOfMemory>
     Ok(workers)
 }
 
-/// An outbox for each slot.
+// An outbox for each slot.
 fn empty_outboxes(alloc: Global) -> Result<Vec<Outbox>, OutOfMemory>
     ensures empty { IfOk result (λ outboxes. outboxes.items ≡ replicate slots []) }
     ensures count { IfOk result (λ outboxes. length outboxes.items ≡ slots) }
@@ -148,7 +148,7 @@ fn empty_outboxes(alloc: Global) -> Result<Vec<Outbox>, OutOfMemory>
     Ok(outboxes)
 }
 
-/// Workers that have done nothing, and an outbox for each slot.
+// Workers that have done nothing, and an outbox for each slot.
 fn idle_hands(alloc: Global, count: u8) -> Result<(Vec<Worker>, Vec<Outbox>), OutOfMemory>
     ensures idle { IfOk result (λ hands. hands.0.items ≡ replicate count idle) }
     ensures count { IfOk result (λ hands. length hands.0.items ≡ count) }
@@ -178,8 +178,8 @@ impl Machine {
     ghost use Rattle.mum_core.specs.Worker.{in_hand};
     ghost use Rattle.mum_core.specs.declared.machine.StepFault.TheVariants as faults;
 
-    /// A machine to which nothing was counted, of parts that fit one another; its steps stand in a recording
-    /// of this version.
+    // A machine to which nothing was counted, of parts that fit one another; its steps are in a recording
+    // of this version.
     fn of(
         alloc: Global,
         version: Version,
@@ -226,7 +226,7 @@ impl Machine {
         }
     }
 
-    /// A machine of so many workers that nothing happened to, at this state; its steps stand in a recording of
+    /// A machine of n workers that nothing happened to, at this state; its steps are in a recording of
     /// this version. The edits that lead to the state are no part of its accepted ones: revisions count from
     /// here on.
     pub fn begin(
@@ -255,7 +255,7 @@ impl Machine {
         know_proper(self.history.opening());
     }
 
-    /// Takes a step that is not a look, and appends the lines that the transcript gains, parted by line
+    /// Takes a step that is not a look, and appends the lines that the transcript gains, separated by line
     /// feeds. A refusal leaves the machine as it was: `Illegal` has the two numbers of the first case that
     /// forbids the step. After a refusal the text may have been added to.
     pub fn take(&mut self, step: &Step, text: &mut String) -> Result<(), StepFault>
@@ -269,14 +269,14 @@ impl Machine {
         Ok(())
     }
 
-    /// One line more was taken.
+    // One line more was taken.
     fn count_line(&mut self)
         ensures { self.new ≡ record self.old { line = up self.old.line } }
     {
         self.line = self.line.saturating_add(1);
     }
 
-    /// Takes a look that is allowed, by the caches of its worker, and appends the line that it tells. Where
+    /// Takes a look that is allowed, by the caches of its worker, and appends the line that it reports. Where
     /// memory runs out the caches may be ahead of what the worker saw.
     pub fn look(
         &mut self,
@@ -290,7 +290,8 @@ impl Machine {
         requires accepted { revision ≤ length self.old.accepted }
         requires sound { AreSound (state_at self.old revision) caches.old }
         ensures settled { Settles named_cause (illegal self.old (Look worker revision)) (does self.old (Look worker revision)) self.old result self.new }
-        ensures told { OnOk result (string_bytes text.new ≡ string_bytes text.old ++ joined (lines self.old (Look worker revision))) }
+        ensures told { OnOk result
+            (string_bytes text.new ≡ string_bytes text.old ++ joined (lines self.old (Look worker revision))) }
         ensures asked { OnOk result (KeepsFor (state_at self.old revision) (worker_at self.old worker).held caches.old.routes caches.new.routes) }
         ensures sound { OnOk result (AreSound (state_at self.old revision) caches.new) }
     {
@@ -299,7 +300,7 @@ impl Machine {
         Ok(())
     }
 
-    /// Makes the change of a step that is not a look, but for the line that it takes.
+    // Makes the change of a step that is not a look, but for the line that it takes.
     fn change(&mut self, step: &Step, text: &mut String) -> Result<(), StepFault>
         requires recordable { IsRecordable step.now }
         requires other { is_look step.now ≡ false }
@@ -327,7 +328,7 @@ impl Machine {
         }
     }
 
-    /// Takes a tell, and answers the lines that the transcript gains. A refusal leaves the machine as it was.
+    /// Takes a `Tell`, and answers the lines that the transcript gains. A refusal changes nothing.
     pub fn step_tell(&mut self, connection: u32, note: Option<u64>) -> Result<Effects, StepFault>
         ensures { IsStarved self.old result self.new ⊎
             Gives named_cause (illegal self.old (Tell connection note)) (map line_of_words (lines self.old (Tell connection note))) (does self.old (Tell connection note)) self.old result self.new }
@@ -338,7 +339,7 @@ impl Machine {
         Ok(reported)
     }
 
-    /// A connection that was opened.
+    // A connection that was opened.
     fn connection(&self, connection: u32) -> Option<&Connection>
         ensures found { IfSome result (λ found. found.now ≡ connection_at self.now connection) }
         ensures opened { is_some result ≡ is_opened self.now connection }
@@ -347,14 +348,14 @@ impl Machine {
         self.connections.get(place)
     }
 
-    /// Why a step that names this connection is refused before any other test.
+    // Why a step that names this connection is refused before any other test.
     fn unopened(&self, connection: u32) -> StepFault
         ensures { result ≡ faults.Illegal connection (length self.now.connections) }
     {
         illegal(u64::from(connection), self.connections.len() as u64)
     }
 
-    /// A worker that there is.
+    // A worker that there is.
     fn worker(&self, worker: u32) -> Option<&Worker>
         ensures found { IfSome result (λ found. found.now ≡ worker_at self.now worker) }
         ensures there { is_some result ≡ nat_lt worker (length self.now.workers) }
@@ -362,14 +363,14 @@ impl Machine {
         self.workers.get(worker as usize)
     }
 
-    /// Why a step that names this worker is refused before any other test.
+    // Why a step that names this worker is refused before any other test.
     fn no_worker(&self, worker: u32) -> StepFault
         ensures { result ≡ faults.Illegal worker (length self.now.workers) }
     {
         illegal(u64::from(worker), self.workers.len() as u64)
     }
 
-    /// How much a worker has in hand: nothing where there is none of that number.
+    // How much a worker has in hand: nothing where there is none of that number.
     fn in_hand(&self, worker: u32) -> u64
         ensures { result ≡ in_hand (worker_at self.now worker) }
     {

@@ -35,7 +35,7 @@ impl PlainCore {
     ghost use Rattle.mum_core.specs.Line.{joined};
     ghost use Rattle.mum_core.specs.Step.{does, illegal, lines};
 
-    /// A core of so many workers that nothing happened to, as `Core::begin` makes it.
+    /// A core of n workers that nothing happened to, as `Core::begin` makes it.
     pub fn begin(
         alloc: Global,
         version: Version,
@@ -65,8 +65,8 @@ impl PlainCore {
         self.core.machine().published()
     }
 
-    /// What was decided of the command of a connection, until it is told: none where nothing waits to be
-    /// told, or where no connection of that number was opened.
+    /// What was decided of the command of a connection, until it is sent: none where nothing waits to be
+    /// sent, or where no connection of that number was opened.
     pub fn decided(&self, connection: u32) -> Option<Mark>
         ensures { result ≡ option_map (λ reply. reply.mark) (connection_at self.now connection).decided }
     {

@@ -27,14 +27,16 @@ pub(crate) fn know_proper(state: &State)
     let _roster = state.roster();
 }
 
-/// What is decided at a state of the next command of a connection: that of its frame, or else its leave.
+// What is decided at a state of the next command of a connection: that of its frame, or else its leave.
 pub(crate) fn decide_next(
     alloc: Global,
     state: &State,
     connection: &Connection,
 ) -> Result<Verdict, OutOfMemory>
     requires { is_some (next_command connection.now) ≡ true }
-    ensures verdict { IfOk result (λ decided. option_map (verdict state.now (session_of connection.now)) (next_command connection.now) ≡ Some decided) }
+    ensures verdict { IfOk result
+        (λ decided. option_map (verdict state.now (session_of connection.now)) (next_command connection.now)
+        ≡ Some decided) }
     ensures fits { IfOk result (FitsWhereAccepted state.now) }
     ensures framed { IfOk result (λ decided. AllByRecursion FitsFrame (edits_of decided)) }
     ensures seated { IfOk result (λ decided. IfSome (seat_of decided) (λ seat. seat.slot.0 < slots)) }
@@ -61,7 +63,7 @@ fn seat_in(end: ReplyEnd) -> Option<Seat>
     }
 }
 
-/// What a connection is answered, where an accepted edit gets this revision.
+// What a connection is answered, where an accepted edit gets this revision.
 pub(crate) fn reply(
     alloc: Global,
     revision: u64,

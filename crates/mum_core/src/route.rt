@@ -24,7 +24,7 @@ use std::collections::VecDeque;
 use std::marker::Brand;
 use std::sync::ledger::{Blank, Ledger};
 
-/// Who hears what a session says to a target, over a counter of its own.
+// Who hears what a session says to a target, over a counter of its own.
 fn counted<L: Ledger>(
     blank: Blank,
     state: &State,
@@ -48,7 +48,7 @@ fn counted<L: Ledger>(
     audience
 }
 
-/// Who hears what a session says to a target, for those who count no steps.
+// Who hears what a session says to a target, for those who count no steps.
 fn routed(
     state: &State,
     speaker: SessionId,
@@ -65,7 +65,7 @@ fn routed(
     counted::<Brand>(Blank::new(1), state, speaker, target, caches, scratch)
 }
 
-/// The copy of a packet for one who hears it.
+// The copy of a packet for one who hears it.
 fn copy_for(
     alloc: Global,
     speaker: SessionId,
@@ -74,7 +74,8 @@ fn copy_for(
 ) -> Result<Outgoing, OutOfMemory>
     requires packet { IsPacket (plain_parts packet.now) }
     requires range { IsInRange hearer.now }
-    ensures { IfOk result (λ copy. copy ≡ outgoing (record { speaker = speaker; parts = plain_parts packet.now }) hearer.now) }
+    ensures { IfOk result
+        (λ copy. copy ≡ outgoing (record { speaker = speaker; parts = plain_parts packet.now }) hearer.now) }
 {
     let bytes = hearer.copy_for(speaker, packet);
     Ok(Outgoing {
@@ -85,7 +86,7 @@ fn copy_for(
     })
 }
 
-/// A copy for each who hears a packet, in their order.
+// A copy for each who hears a packet, in their order.
 fn copies(
     alloc: Global,
     speaker: SessionId,
@@ -104,8 +105,8 @@ fn copies(
     Ok(VecDeque::from_vec(copies))
 }
 
-/// The copies of a packet that a worker holds, for those who hear it, who take the place of those in the audience. It is
-/// parsed once.
+// The copies of a packet that a worker holds, for those who hear it, who take the place of those in the audience. It is
+// parsed once.
 pub(crate) fn heard(
     alloc: Global,
     state: &State,

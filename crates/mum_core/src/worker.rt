@@ -74,7 +74,7 @@ pub struct Outgoing {
 pub struct Worker {
     /// The revision of its last look.
     seen: u64,
-    /// The greatest revision that its connections were told.
+    /// The greatest revision of which its connections were notified.
     told: u64,
     held: Option<Held>,
     copies: VecDeque<Outgoing>,
@@ -143,21 +143,21 @@ impl Worker {
         Ok(sessions)
     }
 
-    /// It holds a packet.
+    // It holds a packet.
     fn hold(&mut self, held: Held)
         ensures { self.new ≡ record self.old { held = Some held } }
     {
         self.held = Some(held);
     }
 
-    /// One of its connections was told a revision.
+    // One of its connections was notified of a revision.
     fn note(&mut self, revision: u64)
         ensures { self.new ≡ record self.old { told = max self.old.told revision } }
     {
         self.told = self.told.max(revision);
     }
 
-    /// It lets go of its packet, and has these copies of it to offer.
+    // It lets go of its packet, and has these copies of it to offer.
     fn look(&mut self, revision: u64, copies: VecDeque<Outgoing>)
         ensures { self.new ≡ record self.old { seen = revision; held = None; copies = copies.items } }
     {
@@ -183,7 +183,7 @@ pub fn hold_at(workers: &mut Vec<Worker>, place: usize, held: Held)
     }
 }
 
-/// A connection of the worker at a place was told a revision.
+/// A connection of the worker at a place was notified of a revision.
 pub fn note_at(workers: &mut Vec<Worker>, place: usize, revision: u64)
     ensures { workers.new.items ≡ changed_at place (λ w. record w { told = max w.told revision }) workers.old.items }
 {
@@ -194,7 +194,8 @@ pub fn note_at(workers: &mut Vec<Worker>, place: usize, revision: u64)
 
 /// The worker at a place looked at a revision, and has these copies to offer.
 pub fn look_at(workers: &mut Vec<Worker>, place: usize, revision: u64, copies: VecDeque<Outgoing>)
-    ensures { workers.new.items ≡ changed_at place (λ w. record w { seen = revision; held = None; copies = copies.items }) workers.old.items }
+    ensures { workers.new.items
+        ≡ changed_at place (λ w. record w { seen = revision; held = None; copies = copies.items }) workers.old.items }
 {
     if let Some(worker) = workers.get_mut(place) {
         worker.look(revision, copies);
@@ -203,7 +204,8 @@ pub fn look_at(workers: &mut Vec<Worker>, place: usize, revision: u64, copies: V
 
 /// Takes the next copy of the worker at a place.
 pub fn take_copy_at(workers: &mut Vec<Worker>, place: usize) -> Option<Outgoing>
-    ensures others { workers.new.items ≡ changed_at place (λ w. record w { copies = drop 1 w.copies }) workers.old.items }
+    ensures others { workers.new.items
+        ≡ changed_at place (λ w. record w { copies = drop 1 w.copies }) workers.old.items }
     ensures copy { result ≡ slice_get (slice_index_or workers.old.items place idle).copies 0 }
 {
     workers.get_mut(place)?.take_copy()

@@ -1,8 +1,5 @@
 -- Elements that make their steps one after the other, where they lie or from the front of a queue to its end.
-use Rattle.std.proofs.Common.{◌≡◌, ℕ, zero, suc, ◌+◌, ◌<◌, ◌≤◌, Bool, true, false, if◌then◌else◌, List, [], ◌∷◌, ◌++◌, length, take, drop, filter, get_or, set, refl, sym, ap, subst, ◌∙◌, arith, append_assoc}
-use Rattle.std.proofs.lemmas.List.{append-nil, drop_more, drop-set-lt, take_more_set}
-use Rattle.std.proofs.lemmas.List.Elements.{filter-append}
-use Rattle.mum_crew.specs.Along.{Along, EachAlong, SomeAlong}
+use Rattle.mum_crew.proofs.Common.{◌≡◌, ℕ, zero, suc, ◌+◌, ◌<◌, ◌≤◌, Bool, true, false, if◌then◌else◌, List, [], ◌∷◌, ◌++◌, length, take, drop, filter, get_or, set, refl, sym, ap, subst, ◌∙◌, arith, append_assoc, append-nil, drop_more, drop-set-lt, take_more_set, filter-append, Along, EachAlong, SomeAlong}
 
 -- one more of a list
 take_on : {A : Type 0} (xs : List A) (k : ℕ) (x : A) (rest : List A) → drop k xs ≡ x ∷ rest → (take (suc k) xs ≡ take k xs ++ x ∷ []) × (drop (suc k) xs ≡ rest)

@@ -1,15 +1,5 @@
 -- Lists, element by element.
-use Rattle.std.proofs.Common.{◌≡◌, ℕ, suc, ◌+◌, ◌<◌, List, [], ◌∷◌, ◌++◌, length, get_or, take, drop, fold, map, Option, None, refl, sym, ap, ◌∙◌, add-one, drop-cons}
-use Rattle.std.proofs.lemmas.List.{append-nil, append_assoc, map-append, take_more}
-use Rattle.std.specs.List.{flat_map}
-use Rattle.std.proofs.lemmas.Grind.{flat_map-append, fold-append}
-use Rattle.serde_json.specs.Data.{Data}
-use Rattle.serde_json.specs.View.{view}
-use Rattle.serde_json.specs.declared.value.Value.{Value}
-use Rattle.mum_document.specs.declared.fault.DocumentError.{DocumentError}
-use Rattle.mum_document.specs.Fault.{Fault, place_text, within}
-use Rattle.mum_document.specs.Object.{each_fault, elements_fault}
-use Rattle.mum_document.specs.Reading.{Names}
+use Rattle.mum_document.proofs.Common.{◌≡◌, ℕ, suc, ◌+◌, ◌<◌, List, [], ◌∷◌, ◌++◌, length, get_or, take, drop, fold, map, Option, None, refl, sym, ap, ◌∙◌, add-one, drop-cons, append-nil, append_assoc, map-append, take_more, flat_map, flat_map-append, fold-append, Data, view, Value, DocumentError, Fault, place_text, within, each_fault, elements_fault, Names}
 use Rattle.mum_document.proofs.First.{first, or_else-none}
 
 -- the values from a place on

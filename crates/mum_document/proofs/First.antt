@@ -1,14 +1,6 @@
 -- First faults: what an error says of a chain of tests.
-use Rattle.std.proofs.Common.{◌≡◌, ℕ, Bool, true, false, not, List, [], ◌∷◌, ◌++◌, Option, None, Some, Result, Ok, Err, IfOk, OnOk, IsErrAnd, append_assoc, refl, sym, ap, ◌∙◌}
-use Rattle.std.proofs.lemmas.Result.{err_from_is_err_and}
-use Rattle.serde_json.specs.Data.{Data}
-use Rattle.mum_document.specs.declared.fault.DocumentError.{DocumentError}
+use Rattle.mum_document.proofs.Common.{◌≡◌, ℕ, Bool, true, false, not, List, [], ◌∷◌, ◌++◌, Option, None, Some, Result, Ok, Err, IfOk, OnOk, IsErrAnd, append_assoc, refl, sym, ap, ◌∙◌, err_from_is_err_and, Data, DocumentError, ConfigFault, Fault, or_else, within, Row, rows_fault, Names, Reads, needed, wanted}
 use Rattle.mum_document.specs.declared.fault.DocumentError.TheVariants as bad
-use Rattle.mum_document.specs.declared.fault.ConfigFault.{ConfigFault}
-use Rattle.mum_document.specs.Fault.{Fault, or_else, within}
-use Rattle.mum_document.specs.Object.{Row, rows_fault}
-use Rattle.mum_document.specs.Reading.{Names, Reads}
-use Rattle.mum_document.specs.Value.{needed, wanted}
 
 pub first : (e : DocumentError) (a b : Option Fault) → Names e a → Names e (or_else a b)
 unfolding Names or_else
@@ -77,7 +69,7 @@ module _ {X : Type 0} (r : Result X DocumentError) (fault : Option Fault) (value
   pub passed_on : (e : DocumentError) → IsErrAnd r (λ y. y ≡ e) → Names e fault → Reads fault value r
   passed_on e is names = let p = err_from_is_err_and r is in rw (p.1, p.2) names
 
-  -- and one that is want of memory
+  -- and one that is out of memory
   pub starved : IsErrAnd r (λ y. y ≡ bad.OutOfMemory) → Reads fault value r
   starved is = let p = err_from_is_err_and r is in rw p.1 (out_of_memory p.0 fault p.2)
 
@@ -143,7 +135,7 @@ pub on_ok_as : {X : Type 0} {P Q : Type 0} (r : Result X DocumentError) → OnOk
 on_ok_as (Ok value) held then_so = then_so held
 on_ok_as (Err e) held then_so = tt
 
--- a reader of rows behind others of which nothing is said
+-- a reader of rows after others of which nothing is said
 pub rows_reads : {X : Type 0} (value : X) (dot : List ℕ) (rows more : List Row) (r : Result X DocumentError) → rows_fault dot rows ≡ None → Reads (rows_fault dot more) value r
     → Reads (rows_fault dot (rows ++ more)) value r
 rows_reads value dot rows more r none reads = rw (rows_fault-append dot rows more) (reads_later _ _ value r none reads)

@@ -1,3 +1,5 @@
+mod Common
+pub mod Public
 pub mod First
 pub mod Values
 pub mod Objects

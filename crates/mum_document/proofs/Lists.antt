@@ -1,13 +1,5 @@
 -- Lists that may be left out, as they are read.
-use Rattle.std.proofs.Common.{◌≡◌, List, [], ℕ, Option, None, Some, Result, option_map, sym, ap, ◌∙◌}
-use Rattle.std.specs.Prelude.{map, unwrap_or}
-use Rattle.std.specs.Borrow.{Bor}
-use Rattle.serde_json.specs.Data.{Data}
-use Rattle.serde_json.specs.View.{view}
-use Rattle.serde_json.specs.declared.value.Value.{Value}
-use Rattle.mum_document.specs.declared.fault.DocumentError.{DocumentError}
-use Rattle.mum_document.specs.Fault.{Fault, or_else, within}
-use Rattle.mum_document.specs.Reading.{Names, Reads}
+use Rattle.mum_document.proofs.Common.{◌≡◌, List, [], ℕ, Option, None, Some, Result, option_map, sym, ap, ◌∙◌, map, unwrap_or, Bor, Data, view, Value, DocumentError, Fault, or_else, within, Names, Reads}
 use Rattle.mum_document.proofs.First.{later, none_said, or_else-end, reads_later, within_none}
 
 -- what is lent, as it is given

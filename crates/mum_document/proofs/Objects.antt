@@ -1,17 +1,5 @@
 -- Objects: their kind, and their unknown keys.
-use Rattle.std.proofs.Common.{◌≡◌, ℕ, Bool, true, false, not, List, [], ◌∷◌, ◌++◌, map, Option, None, Some, is_some, option_map, refl, sym, ap}
-use Rattle.std.specs.Prelude.{is_none}
-use Rattle.std.specs.Borrow.{Bor}
-use Rattle.std.specs.List.{list_any}
-use Rattle.std.specs.Str.{bytes_eq}
-use Rattle.std.proofs.lemmas.List.{append-nil}
-use Rattle.serde_json.specs.Data.{Data, Members, member}
-use Rattle.serde_json.specs.Find.{as_object}
-use Rattle.mum_document.specs.declared.fault.DocumentError.{DocumentError}
-use Rattle.mum_document.specs.declared.fault.ConfigFault.TheVariants.{UnknownKey, WrongKind}
-use Rattle.mum_document.specs.Fault.{against, within}
-use Rattle.mum_document.specs.Object.{unknown_fault, unknown_key}
-use Rattle.mum_document.specs.Reading.{Names}
+use Rattle.mum_document.proofs.Common.{◌≡◌, ℕ, Bool, true, false, not, List, [], ◌∷◌, ◌++◌, map, Option, None, Some, is_some, option_map, refl, sym, ap, is_none, Bor, list_any, bytes_eq, append-nil, Data, Members, member, as_object, DocumentError, UnknownKey, WrongKind, against, within, unknown_fault, unknown_key, Names}
 
 pub kind_said : (found : Option Members) → is_some found ≡ false → against WrongKind (is_none found) ≡ Some (record { cause = WrongKind; key = [] })
 kind_said None missing = refl

@@ -1,11 +1,5 @@
 -- Sets of what was met: what is new goes last.
-use Rattle.std.proofs.Common.{◌≡◌, ℕ, Bool, true, false, not, List, [], ◌∷◌, ◌++◌, map, None, refl, sym}
-use Rattle.std.specs.Borrow.{Bor}
-use Rattle.std.specs.List.{list_any}
-use Rattle.std.proofs.lemmas.List.{map-append}
-use Rattle.indexmap.specs.IndexSet.{insert_key}
-use Rattle.mum_document.specs.declared.fault.ConfigFault.{ConfigFault}
-use Rattle.mum_document.specs.Fault.{against, within}
+use Rattle.mum_document.proofs.Common.{◌≡◌, ℕ, Bool, true, false, not, List, [], ◌∷◌, ◌++◌, map, None, refl, sym, Bor, list_any, map-append, insert_key, ConfigFault, against, within}
 
 -- where nothing is said, what would have been said does not hold
 pub none_against : (way : List ℕ) (cause : ConfigFault) (holds : Bool) → within way (against cause holds) ≡ None → holds ≡ false

@@ -1,15 +1,5 @@
 -- Lists of a document as lists of values.
-use Rattle.std.proofs.Common.{◌≡◌, ℕ, ◌<◌, ◌≤◌, List, [], ◌∷◌, length, map, Bool, ◌||◌, Option, None, Some, IfSome, option_map, false, true, refl, sym, ap, arith}
-use Rattle.std.specs.Prelude.{nat_lt}
-use Rattle.std.proofs.lemmas.Bool.Decides.{nat_tests}
-use Rattle.std.proofs.lemmas.List.{length-map}
-use Rattle.serde_json.specs.Data.{Data, Items, array, boolean, float, negative, null, number, object, string, unsigned}
-use Rattle.serde_json.specs.Find.{as_array}
-use Rattle.serde_json.specs.View.{items_of, items_view, view}
-use Rattle.serde_json.specs.declared.value.Value.{Value}
-use Rattle.mum_document.specs.declared.fault.ConfigFault.TheVariants.{Limit, OutOfRange}
-use Rattle.mum_document.specs.Value.{elements_in, elements_of, list_fault, number_fault, number_of, wanted}
-use Rattle.mum_document.specs.Fault.{against}
+use Rattle.mum_document.proofs.Common.{◌≡◌, ℕ, ◌<◌, ◌≤◌, List, [], ◌∷◌, length, map, Bool, ◌||◌, Option, None, Some, IfSome, option_map, false, true, refl, sym, ap, arith, nat_lt, nat_tests, length-map, Data, Items, array, boolean, float, negative, null, number, object, string, unsigned, as_array, items_of, items_view, view, Value, Limit, OutOfRange, elements_in, elements_of, list_fault, number_fault, number_of, wanted, against}
 
 pub elements_in-items_of : (values : List Data) → elements_in (items_of values) ≡ values
 elements_in-items_of [] = refl

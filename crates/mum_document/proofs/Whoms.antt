@@ -1,14 +1,5 @@
 -- Whom an entry speaks of, as it is read.
-use Rattle.std.proofs.Common.{◌≡◌, ℕ, List, Option, None, Some, option_map, refl, ap, ◌∙◌}
-use Rattle.std.specs.Prelude.{codes}
-use Rattle.std.specs.Option.{option_map_or}
-use Rattle.serde_json.specs.Data.{Data}
-use Rattle.serde_json.specs.Find.{get}
-use Rattle.mum_policy.specs.declared.policy.Whom.{Whom}
-use Rattle.mum_policy.specs.declared.policy.Whom.TheVariants.{Account, Group}
-use Rattle.mum_document.specs.Object.{text_at}
-use Rattle.mum_document.specs.Policy.{account_of, whom_of}
-use Rattle.mum_document.specs.Value.{number_of}
+use Rattle.mum_document.proofs.Common.{◌≡◌, ℕ, List, Option, None, Some, option_map, refl, ap, ◌∙◌, codes, option_map_or, Data, get, Whom, Account, Group, text_at, account_of, whom_of, number_of}
 
 account_found : (found : Option Data) (n : ℕ) (other : Whom) → Some n ≡ option_map number_of found → Account (record { 0 = n }) ≡ option_map_or (λ account. Account (account_of account)) found other
 account_found None n other is = absurd (cc)

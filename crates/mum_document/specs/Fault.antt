@@ -3,7 +3,7 @@ use Rattle.std.specs.Prelude.{ℕ, Bool, List, [], ◌++◌, Option, Some, None,
 use Rattle.mum_document.specs.declared.fault.ConfigFault.{ConfigFault}
 use Rattle.mum_document.specs.declared.fault.ConfigFault.TheVariants.{NotJson, NotAnObject, UnknownKey, WrongKind, OutOfRange, BadName, BadDigest, Twice, NoSuch, Limit}
 
--- the number by which a fault is told, in the order in which faults are looked for at one key
+-- the number by which a fault is reported, in the order in which faults are looked for at one key
 abbrev pub fault_code : ConfigFault → ℕ
 fault_code NotJson = 60
 fault_code NotAnObject = 61
@@ -21,11 +21,11 @@ pub record Fault : Type 0 where
   pub cause : ConfigFault
   pub key : List ℕ
 
--- where this holds, the cause stands against the value itself
+-- where this holds, the cause is of the value itself
 abbrev pub against : ConfigFault → Bool → Option Fault
 against cause holds = if holds then Some (record { cause = cause; key = [] }) else None
 
--- the first of two that stands
+-- the first of two that applies
 unfoldable pub or_else : Option Fault → Option Fault → Option Fault
 or_else (Some fault) later = Some fault
 or_else None later = later

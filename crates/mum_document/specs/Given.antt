@@ -1,14 +1,11 @@
 -- What is given of a channel beside its seat: its info, and its policy.
 use Rattle.std.specs.Prelude.{List, [], ◌∷◌, ◌++◌, Option, codes, map}
 use Rattle.std.specs.Option.{option_map}
-use Rattle.serde_json.specs.Data.{Data}
-use Rattle.serde_json.specs.Find.{get}
+use Rattle.serde_json.specs.{Data.Data, Find.get}
 use Rattle.mum_base.specs.declared.name.TheConstants.{TEXT_LIMIT}
-use Rattle.mum_policy.specs.declared.policy.AclEntry.{AclEntry}
-use Rattle.mum_policy.specs.declared.policy.Group.{Group as GroupRow}
+use Rattle.mum_policy.specs.declared.policy.{AclEntry.AclEntry, Group.Group as GroupRow}
 use Rattle.mum_policy.specs.declared.policy.TheConstants.{ENTRIES, GROUPS}
-use Rattle.mum_document.specs.declared.given.GivenInfo.{GivenInfo}
-use Rattle.mum_document.specs.declared.given.GivenPolicy.{GivenPolicy}
+use Rattle.mum_document.specs.declared.given.{GivenInfo.GivenInfo, GivenPolicy.GivenPolicy}
 use Rattle.mum_document.specs.Object.{Row, each_fault, elements_at, elements_fault}
 use Rattle.mum_document.specs.Policy.{entry_fault, entry_of, group_fault, group_of, with_group_met}
 use Rattle.mum_document.specs.Value.{elements_of, flag_fault, flag_of, greatest, list_fault, number_fault, number_of, signed_fault, signed_of, text_fault, text_of, wanted}

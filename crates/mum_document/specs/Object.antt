@@ -1,8 +1,6 @@
 -- The one rule for objects and the one rule for lists: in which order their parts are tested.
 use Rattle.std.specs.Prelude.{ℕ, ◌+◌, Bool, List, [], ◌∷◌, ◌++◌, Option, Some, None, codes, is_none, is_some, unwrap_or, if◌then◌else◌}
-use Rattle.std.specs.List.{list_any}
-use Rattle.std.specs.Option.{option_map, option_map_or}
-use Rattle.std.specs.Str.{bytes_eq}
+use Rattle.std.specs.{List.list_any, Option.option_map, Option.option_map_or, Str.bytes_eq}
 use Rattle.serde_json.specs.Data.{Data, Members, member, no_members}
 use Rattle.serde_json.specs.Find.{as_object, get}
 use Rattle.mum_document.specs.declared.fault.ConfigFault.TheVariants.{Twice, UnknownKey, WrongKind}
@@ -18,7 +16,7 @@ abbrev pub rows_fault : List ℕ → List Row → Option Fault
 rows_fault dot [] = None
 rows_fault dot (row ∷ rows) = or_else (within (dot ++ row.0) row.1) (rows_fault dot rows)
 
--- the least key that is none of these: an object's members stand in order of their keys
+-- the least key that is none of these: an object's members are in order of their keys
 abbrev pub unknown_key : List (List ℕ) → Members → Option (List ℕ)
 unknown_key names no_members = None
 unknown_key names (member key value members) =
@@ -26,7 +24,8 @@ unknown_key names (member key value members) =
 
 abbrev pub unknown_fault : List ℕ → List (List ℕ) → Data → Option Fault
 unknown_fault dot names value =
-    option_map (λ key. record { cause = UnknownKey; key = dot ++ key }) (option_map_or (unknown_key names) (as_object value) None)
+    option_map (λ key. record { cause = UnknownKey; key = dot ++ key })
+    (option_map_or (unknown_key names) (as_object value) None)
 
 -- before its keys: first that it is an object, then that it has no other keys
 abbrev pub opening_fault : List ℕ → List (List ℕ) → Data → Option Fault
@@ -37,15 +36,18 @@ abbrev pub object_fault : List (List ℕ) → List Row → Data → Option Fault
 object_fault names rows value = or_else (opening_fault (codes ".") names value) (rows_fault (codes ".") rows)
 
 -- the elements from a place on, in order, each tested with what the ones before it left
-abbrev pub elements_fault : {Met : Type 0} → (Met → Data → Option Fault) → (Met → Data → Met) → Met → ℕ → List Data → Option Fault
+abbrev pub elements_fault : {Met : Type 0} → (Met → Data → Option Fault) → (Met → Data → Met) → Met → ℕ → List Data
+    → Option Fault
 elements_fault fault next met place [] = None
 elements_fault fault next met place (value ∷ values) =
-    or_else (within (place_text place) (fault met value)) (elements_fault fault next (next met value) (place + 1) values)
+    or_else (within (place_text place) (fault met value))
+    (elements_fault fault next (next met value) (place + 1) values)
 
 -- the same where each is tested by itself
 abbrev pub each_fault : (Data → Option Fault) → ℕ → List Data → Option Fault
 each_fault fault place [] = None
-each_fault fault place (value ∷ values) = or_else (within (place_text place) (fault value)) (each_fault fault (place + 1) values)
+each_fault fault place (value ∷ values) =
+    or_else (within (place_text place) (fault value)) (each_fault fault (place + 1) values)
 
 -- ---- what an object has at a key
 

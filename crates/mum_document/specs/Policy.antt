@@ -1,19 +1,12 @@
 -- A group, and an entry of an access control list.
 use Rattle.std.specs.Prelude.{ℕ, ◌&&◌, bit_and, not, Bool, true, List, [], ◌∷◌, ◌++◌, map, Option, codes}
 use Rattle.std.specs.Option.{option_map_or}
-use Rattle.serde_json.specs.Data.{Data}
-use Rattle.serde_json.specs.Find.{get}
-use Rattle.mum_base.specs.declared.name.TheConstants.{NAME_LIMIT}
-use Rattle.mum_base.specs.declared.number.AccountId.{AccountId}
-use Rattle.mum_base.specs.declared.perm.Perm.{Perm}
+use Rattle.serde_json.specs.{Data.Data, Find.get}
+use Rattle.mum_base.specs.declared.{name.TheConstants.NAME_LIMIT, number.AccountId.AccountId, perm.Perm.Perm}
 use Rattle.mum_base.specs.declared.perm.TheConstants.Perm.{ALL}
-use Rattle.mum_policy.specs.declared.policy.AclEntry.{AclEntry}
-use Rattle.mum_policy.specs.declared.policy.Group.{Group as GroupRow}
-use Rattle.mum_policy.specs.declared.policy.TheConstants.{GROUP_ACCOUNTS}
-use Rattle.mum_policy.specs.declared.policy.Whom.{Whom}
-use Rattle.mum_policy.specs.declared.policy.Whom.TheVariants.{Account, Group}
-use Rattle.mum_document.specs.declared.entry.Rights.{Rights}
-use Rattle.mum_document.specs.declared.fault.ConfigFault.TheVariants.{WrongKind}
+use Rattle.mum_policy.specs.declared.policy.{AclEntry.AclEntry, Group.Group as GroupRow, TheConstants.GROUP_ACCOUNTS}
+use Rattle.mum_policy.specs.declared.policy.Whom.{Whom, TheVariants.Account, TheVariants.Group}
+use Rattle.mum_document.specs.declared.{entry.Rights.Rights, fault.ConfigFault.TheVariants.WrongKind}
 use Rattle.mum_document.specs.Fault.{Fault, against}
 use Rattle.mum_document.specs.Object.{Row, each_fault, elements_at, flag_at, has, new_name_rows, number_at, object_fault, text_at}
 use Rattle.mum_document.specs.Value.{flag_fault, greatest, list_fault, number_fault, number_of, text_fault, wanted}

@@ -1,15 +1,11 @@
 -- What a reader answers: the value that is read, or the first fault.
 use Rattle.std.specs.Prelude.{◌≡◌, ℕ, ⊤, List, [], map, Option, Some, None, Result, Ok, Err}
-use Rattle.std.specs.Borrow.{Bor}
-use Rattle.std.specs.Option.{option_map}
-use Rattle.serde_json.specs.Data.{Data}
-use Rattle.serde_json.specs.View.{view}
+use Rattle.std.specs.{Borrow.Bor, Option.option_map}
+use Rattle.serde_json.specs.{Data.Data, View.view}
 use Rattle.serde_json.specs.declared.value.Value.{Value}
-use Rattle.mum_document.specs.declared.fault.DocumentError.{DocumentError}
+use Rattle.mum_document.specs.declared.fault.{DocumentError.DocumentError, ConfigFault.ConfigFault}
+use Rattle.mum_document.specs.{Fault.Fault, Value.elements_of, Value.list_fault}
 use Rattle.mum_document.specs.declared.fault.DocumentError.TheVariants as bad
-use Rattle.mum_document.specs.declared.fault.ConfigFault.{ConfigFault}
-use Rattle.mum_document.specs.Fault.{Fault}
-use Rattle.mum_document.specs.Value.{elements_of, list_fault}
 
 -- the error names this fault, or memory ran out
 unfoldable pub Names : DocumentError → Option Fault → Type 0

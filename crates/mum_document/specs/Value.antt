@@ -1,8 +1,7 @@
 -- Values of a document by their kinds: what is said against each, and what it is read as. A value that is read as
 -- something although something is said against it is never used.
 use Rattle.std.specs.Prelude.{ℕ, ℤ, pos, negsuc, ◌^◌, ◌-◌, ◌||◌, int_lt, nat_le, nat_lt, not, Bool, true, false, List, [], ◌∷◌, length, Option, Some, None, is_ok, is_some}
-use Rattle.std.specs.Option.{option_and_then}
-use Rattle.std.specs.Result.{result_unwrap_or}
+use Rattle.std.specs.{Option.option_and_then, Result.result_unwrap_or}
 use Rattle.hex.specs.Hex.{decode_sized}
 use Rattle.serde_json.specs.Data.{Data, Items, array, boolean, item, no_items, negative, number, string, unsigned}
 use Rattle.mum_base.specs.Name.{name_fault as fault_of_name}
@@ -56,7 +55,7 @@ flag_of value = false
 
 -- ---- texts
 
--- of at most so many bytes
+-- of at most n bytes
 abbrev pub text_fault : ℕ → Data → Option Fault
 text_fault limit (string text) = against Limit (nat_lt limit (length text))
 text_fault limit value = against WrongKind true
@@ -87,7 +86,7 @@ abbrev pub elements_of : Data → List Data
 elements_of (array values) = elements_in values
 elements_of value = []
 
--- of at most so many elements
+-- of at most n elements
 abbrev pub list_fault : ℕ → Data → Option Fault
 list_fault limit (array values) = against Limit (nat_lt limit (length (elements_in values)))
 list_fault limit value = against WrongKind true

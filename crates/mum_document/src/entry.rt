@@ -21,14 +21,14 @@ use std::mem::drop;
 
 const KEYS: [&str; 6] = ["account", "group", "here", "subs", "grant", "deny"];
 
-/// Whether an entry speaks of nobody.
+// Whether an entry speaks of nobody.
 fn lacks_whom(object: &Object<'_>) -> bool
     ensures { result ≡ lacks_whom (view object.now.value.now) }
 {
     !object.has("account") && !object.has("group")
 }
 
-/// Whom an entry speaks of: an account, if one is given, or else a group.
+// Whom an entry speaks of: an account, if one is given, or else a group.
 fn whom_in(object: &Object<'_>) -> Result<Whom, DocumentError>
     ensures { Reads (rows_fault object.now.dot.now (whom_rows (view object.now.value.now)))
         (whom_of (view object.now.value.now)) result }
@@ -42,7 +42,7 @@ fn whom_in(object: &Object<'_>) -> Result<Whom, DocumentError>
     }
 }
 
-/// A set of permissions, of which those that there are count.
+// A set of permissions, of which those that there are count.
 fn permissions_in(object: &Object<'_>, name: &str) -> Result<Perm, DocumentError>
     ensures { let value = view object.now.value.now in
         Reads (within (object.now.dot.now ++ name.now)
@@ -53,7 +53,7 @@ fn permissions_in(object: &Object<'_>, name: &str) -> Result<Perm, DocumentError
     Ok(Perm(bits.unwrap_or(0) & Perm::ALL.0))
 }
 
-/// Where an entry holds, and what it grants and denies.
+// Where an entry holds, and what it grants and denies.
 #[derive(Clone, Copy)]
 pub(crate) struct Rights {
     pub here: bool,
@@ -97,7 +97,7 @@ fn push_entry(whom: Whom, rights: Rights, entries: &mut Vec<AclEntry>) -> Result
     Ok(())
 }
 
-/// Adds an entry.
+// Adds an entry.
 fn read_entry(
     alloc: Global,
     value: &Value,
@@ -123,7 +123,7 @@ fn read_entry(
     }
 }
 
-/// The entries of a channel, in order.
+// The entries of a channel, in order.
 pub(crate) fn read_entries(
     alloc: Global,
     values: &[Value],

@@ -101,7 +101,7 @@ pub fn fault_at(alloc: Global, cause: ConfigFault, key: &str) -> DocumentError
     }
 }
 
-/// The text of two texts, unless memory runs out.
+// The text of two texts, unless memory runs out.
 fn joined(alloc: Global, first: &str, second: &str) -> Result<Text, OutOfMemory>
     ensures { IfOk result (λ text. text ≡ first.now ++ second.now) }
 {
@@ -110,7 +110,7 @@ fn joined(alloc: Global, first: &str, second: &str) -> Result<Text, OutOfMemory>
     Ok(Text::from_string(text))
 }
 
-/// The same error, seen from the value that the way leads from.
+// The same error, seen from the value that the way leads from.
 pub(crate) fn seen_from(alloc: Global, way: &str, error: DocumentError) -> DocumentError
     ensures { (fault : Option Fault) → Names error fault → Names result (within way.now fault) }
 {
@@ -123,14 +123,14 @@ pub(crate) fn seen_from(alloc: Global, way: &str, error: DocumentError) -> Docum
     }
 }
 
-/// The way to an element of a list, as `[3]`, unless memory runs out.
+// The way to an element of a list, as `[3]`, unless memory runs out.
 fn place_way(alloc: Global, place: usize) -> Result<Text, OutOfMemory>
     ensures { IfOk result (λ way. way ≡ place_text place) }
 {
     Ok(Text::from_string(format!(in alloc; "[{place}]")?))
 }
 
-/// The same error, seen from the list that has what it is about at this place.
+// The same error, seen from the list that has what it is about at this place.
 fn seen_at(alloc: Global, place: usize, error: DocumentError) -> DocumentError
     ensures { (fault : Option Fault) → Names error fault →
         Names result (within (place_text place) fault) }

@@ -48,7 +48,7 @@ impl GivenInfo {
     }
 }
 
-/// The groups at the key `groups`, if it is there.
+// The groups at the key `groups`, if it is there.
 fn groups_in(object: &Object<'_>) -> Result<Option<Items<Group>>, DocumentError>
     ensures { let value = view object.now.value.now in
         Reads (rows_fault object.now.dot.now (group_list_rows value)) (groups_at value) result }
@@ -62,7 +62,7 @@ fn groups_in(object: &Object<'_>) -> Result<Option<Items<Group>>, DocumentError>
     }
 }
 
-/// The entries at the key `acls`, if it is there.
+// The entries at the key `acls`, if it is there.
 fn acls_in(object: &Object<'_>) -> Result<Option<Items<AclEntry>>, DocumentError>
     ensures { let value = view object.now.value.now in
         Reads (rows_fault object.now.dot.now (entry_list_rows value)) (acls_at value) result }

@@ -21,7 +21,7 @@ use std::mem::drop;
 
 const KEYS: [&str; 5] = ["name", "inherit", "inheritable", "add", "remove"];
 
-/// The number of an account, which need not be there.
+// The number of an account, which need not be there.
 fn read_account(alloc: Global, value: &Value) -> Result<AccountId, DocumentError>
     ensures { Reads (number_fault 0 greatest (view value.now)) (account_of (view value.now)) result }
 {
@@ -43,7 +43,7 @@ fn read_accounts(alloc: Global, values: &[Value]) -> Result<Items<AccountId>, Do
     Ok(Items::from_vec(accounts))
 }
 
-/// The accounts at a key of a group; none where it is left out.
+// The accounts at a key of a group; none where it is left out.
 fn accounts_in(object: &Object<'_>, name: &str) -> Result<Items<AccountId>, DocumentError>
     ensures { let value = view object.now.value.now in
         Reads (rows_fault object.now.dot.now (id_rows name.now value)) (accounts_at name.now value) result }
@@ -54,7 +54,7 @@ fn accounts_in(object: &Object<'_>, name: &str) -> Result<Items<AccountId>, Docu
     }
 }
 
-/// Adds a group of this name, with these accounts.
+// Adds a group of this name, with these accounts.
 fn push_group(
     alloc: Global,
     name: &str,
@@ -91,7 +91,7 @@ fn push_group(
     }
 }
 
-/// Adds a group, whose name none of those before it has.
+// Adds a group, whose name none of those before it has.
 fn read_group<'a>(
     alloc: Global,
     value: &'a Value,
@@ -128,7 +128,7 @@ fn read_group<'a>(
     }
 }
 
-/// Adds groups to others, of which no two have one name.
+// Adds groups to others, of which no two have one name.
 fn add_groups<'a>(
     alloc: Global,
     values: &'a [Value],
@@ -146,7 +146,7 @@ fn add_groups<'a>(
     Ok(())
 }
 
-/// The groups of a channel, of which no two have one name.
+// The groups of a channel, of which no two have one name.
 pub(crate) fn read_groups(alloc: Global, values: &[Value]) -> Result<Items<Group>, DocumentError>
     ensures { Reads (elements_fault group_fault with_group_met [] 0 (map view values.now))
         (map group_of (map view values.now)) result }

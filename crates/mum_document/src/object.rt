@@ -22,7 +22,7 @@ use mum_base::{OutOfMemory, Text};
 use serde_json::Value;
 use std::alloc::Global;
 
-/// An object of the document, and what stands before a key in its way: a dot inside a list, and
+/// An object of the document, and what comes before a key in its way: a dot inside a list, and
 /// nothing in the document itself.
 #[derive(Clone, Copy)]
 pub struct Object<'a> {
@@ -31,7 +31,7 @@ pub struct Object<'a> {
     pub dot: &'static str,
 }
 
-/// Whether the key is one of these.
+// Whether the key is one of these.
 fn is_known(names: &[&str], key: &str) -> bool
     ensures { result ≡ list_any (λ name. bytes_eq name.now key.now) names.now }
 {
@@ -68,7 +68,7 @@ impl<'a> Object<'a> {
         Ok(())
     }
 
-    /// The fault at a key.
+    // The fault at a key.
     fn fault(&self, name: &str, cause: ConfigFault) -> DocumentError
         ensures { Names result (within (self.now.dot.now ++ name.now)
             (Some (record { cause = cause; key = [] }))) }
@@ -181,7 +181,7 @@ impl<'a> Object<'a> {
         }
     }
 
-    /// A text of at most so many bytes.
+    /// A text of at most n bytes.
     pub fn text(&self, name: &str, limit: usize) -> Result<Option<Text>, DocumentError>
         ensures { let found = get name.now (view self.now.value.now) in
             Reads (within (self.now.dot.now ++ name.now) (wanted (text_fault limit) found))
@@ -238,7 +238,7 @@ impl<'a> Object<'a> {
         }
     }
 
-    /// The elements of a list of at most so many.
+    /// The elements of a list of at most n.
     pub fn list(&self, name: &str, limit: usize) -> Result<Option<&'a [Value]>, DocumentError>
         ensures { let found = get name.now (view self.now.value.now) in
             ReadsElements (within (self.now.dot.now ++ name.now) (wanted (list_fault limit) found))
@@ -253,7 +253,7 @@ impl<'a> Object<'a> {
         }
     }
 
-    /// The elements of a list of at most so many; none where it is left out.
+    /// The elements of a list of at most n; none where it is left out.
     pub fn elements(&self, name: &str, limit: usize) -> Result<&'a [Value], DocumentError>
         ensures { let object = view self.now.value.now in
             ReadsValues (within (self.now.dot.now ++ name.now)

@@ -48,7 +48,7 @@ pub fn read_flag(value: &Value) -> Result<bool, ConfigFault>
     }
 }
 
-/// A text of at most so many bytes. Errors: `Limit` of a longer one, `WrongKind` of anything else.
+/// A text of at most n bytes. Errors: `Limit` of a longer one, `WrongKind` of anything else.
 pub fn read_text(value: &Value, limit: usize) -> Result<&str, ConfigFault>
     ensures { JudgesText (text_fault limit (view value.now)) (text_of (view value.now)) result }
 {
@@ -71,7 +71,7 @@ pub fn read_name(value: &Value) -> Result<&str, ConfigFault>
     }
 }
 
-/// The 32 bytes that 64 hexadecimal digits spell, in either case. Errors: `BadDigest` of another text,
+/// The 32 bytes that 64 hexadecimal digits encode, in either case. Errors: `BadDigest` of another text,
 /// `WrongKind` of anything else.
 pub fn read_digest(value: &Value) -> Result<[u8; 32], ConfigFault>
     ensures { Judges (digest_fault (view value.now)) (digest_of (view value.now)) result }
@@ -82,7 +82,7 @@ pub fn read_digest(value: &Value) -> Result<[u8; 32], ConfigFault>
     }
 }
 
-/// A list of at most so many values. Errors: `Limit` of a longer one, `WrongKind` of anything else.
+/// A list of at most n values. Errors: `Limit` of a longer one, `WrongKind` of anything else.
 pub fn read_list(value: &Value, limit: usize) -> Result<&[Value], ConfigFault>
     ensures { JudgesList limit (view value.now) result }
 {

@@ -10,7 +10,8 @@ HasStopped old new = Rose old.ends new.ends ⊎ Rose old.faults new.faults
 -- no count of the door fell; where it ended or failed, the count of ends or that of faults rose, and where it failed, that
 -- of faults; no fault was counted unless it failed, and no end unless it ended or failed; and it is open at the address at
 -- which it was
-pub record IsSince (opening : DoorOpening) (counts : Counts) (opened_at : Option (List ℕ)) (stopped failed : Bool) : Type 0 where
+pub record IsSince (opening : DoorOpening) (counts : Counts) (opened_at : Option (List ℕ))
+    (stopped failed : Bool) : Type 0 where
   pub none_falls : NoneFalls opening.counts counts
   pub stops : IsTrue stopped → HasStopped opening.counts counts
   pub fails : IsTrue failed → Rose opening.counts.faults counts.faults

@@ -1,8 +1,7 @@
 -- A call that failed is counted.
 use Rattle.std.proofs.Common.{◌≡◌, ◌∙◌, ℕ, not, Bool, ap, subst}
 use Rattle.std.specs.IoError.{error_kind}
-use Rattle.std.specs.declared.io.ErrorKind.{ErrorKind}
-use Rattle.std.specs.declared.io.Error.{Error}
+use Rattle.std.specs.declared.io.{ErrorKind.ErrorKind, Error.Error}
 use Rattle.mum_link.specs.Faults.{CountsOneIf, is_passing}
 
 pub counted : (passing : Bool) (kind : ErrorKind) (error : Error) (old new : ℕ) → passing ≡ is_passing kind → kind ≡ error_kind error

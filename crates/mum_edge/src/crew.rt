@@ -15,13 +15,13 @@ use std::thread::Threads;
 use std::time::{Clock, Instant};
 use std::{io, thread};
 
-/// How many events one look takes notice of.
+// How many events one look takes notice of.
 const EVENTS: usize = 256;
 
 /// The station of one thread.
 pub type SocketStation<X> = LinkStation<PollSleeper<X>>;
 
-/// Threads with a station each: the first for the owner, the next for the workers, the last for the roles behind these,
+/// Threads with a station each: the first for the owner, the next for the workers, the last for the roles after these,
 /// where there are any.
 #[derive(Drop)]
 pub struct ThreadCrew<X> {
@@ -40,7 +40,7 @@ pub fn thread_count<X: Threads>(rt: &X) -> usize {
 }
 
 impl<X: Net + Clock + Copy> ThreadCrew<X> {
-    /// A crew of this many threads for the owner and the workers, and one for so many roles behind these, if there are any.
+    // A crew of this many threads for the owner and the workers, and one for n roles after these, if there are any.
     pub(crate) fn new(
         rt: X,
         alloc: Global,
@@ -62,7 +62,7 @@ impl<X: Net + Clock + Copy> ThreadCrew<X> {
         })
     }
 
-    /// The boards of its threads.
+    // The boards of its threads.
     pub(crate) fn boards(&self, alloc: Global) -> Result<Vec<Arc<Board>>, AllocError> {
         let stations = self.stations.as_slice();
         let mut boards = Vec::with_capacity(alloc, stations.len())?;
@@ -72,7 +72,7 @@ impl<X: Net + Clock + Copy> ThreadCrew<X> {
         Ok(boards)
     }
 
-    /// What sockets share, with the polls of its threads.
+    // What sockets share, with the polls of its threads.
     pub(crate) fn polls(&self, alloc: Global) -> io::Result<Arc<StreamPolls>> {
         let stations = self.stations.as_slice();
         let mut registries = Vec::with_capacity(alloc, stations.len())?;

@@ -14,13 +14,13 @@ use std::os::fd::AsRawFd;
 use std::sync::Arc;
 use std::{fs, io};
 
-/// The token of the socket at which somebody connects who wants the server to stop, behind those of the slots.
+/// The token of the socket at which somebody connects who wants the server to stop, after those of the slots.
 pub const STOP: usize = SLOT_LIMIT;
 
-/// The most connections that wait for an accept.
+// The most connections that wait for an accept.
 const BACKLOG: i32 = 1024;
 
-/// A listening socket whose accept does not wait.
+// A listening socket whose accept does not wait.
 #[derive(Drop)]
 enum Bound {
     Tcp(TcpListener),
@@ -82,8 +82,8 @@ pub struct SocketListener<X> {
 }
 
 impl<X: Net + Files + Eprint> SocketListener<X> {
-    /// It listens nowhere yet. Whose links are to fail where a peer takes nothing has the system keep little for each of
-    /// them, so as to be notified soon of what the peer took.
+    // It listens nowhere yet. Whose links are to fail where a peer takes nothing has the system keep little for each of
+    // them, so as to be notified soon of what the peer took.
     pub(crate) fn new(
         rt: X,
         polls: Arc<StreamPolls>,

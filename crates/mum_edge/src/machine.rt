@@ -32,7 +32,7 @@ pub type MachineDoor<X> = SocketDoor<SocketListener<X>, Peer<X>>;
 /// The crew comes first, since the doors register their links at the polls on which the threads of the crew sleep.
 /// The door is to be asked by the first role of that crew, and a connection's link by the worker to whom it belongs:
 /// connection n belongs to worker (n - 1) modulo their number. The view door, and the links of its connections, are to be
-/// asked by a role behind the workers.
+/// asked by a role after the workers.
 #[derive(Drop)]
 pub struct Machine<X: Eprint + Drop>
 where
@@ -53,7 +53,7 @@ struct Setting<X> {
 }
 
 impl<X: AllocGlobal + Net + Files + Env + Eprint + Threads + Clock + Copy> Machine<X> {
-    /// Makes a crew for as many roles behind the workers, with threads for half of the processors and the owner's.
+    /// Makes a crew for as many roles after the workers, with threads for half of the processors and the owner's.
     /// The environment's `MURMUR_PACE` says how fast a client may send, `MURMUR_LOG=none` that connections leave no
     /// lines on standard error, and `MURMUR_STOP` where to connect for a stop. Where the system refuses what threads
     /// sleep on, as to a process with too few descriptors, the door cannot be opened, and says why.

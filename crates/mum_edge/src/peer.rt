@@ -14,7 +14,7 @@ use std::mem::replace;
 use std::net::Ipv6Addr;
 use std::sync::Arc;
 
-/// How many bytes are thrown away of a peer that still sends when its link is shut.
+// How many bytes are thrown away of a peer that still sends when its link is shut.
 const DRAIN_LIMIT: usize = 65_536;
 
 const DRAIN_PIECE: usize = 4096;

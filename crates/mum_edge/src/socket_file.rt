@@ -9,10 +9,10 @@ use std::os::fd::{AsRawFd, OwnedFd};
 use std::os::unix::fs::FileTypeExt;
 use std::{fs, io};
 
-/// The most bytes of a path in the address of a socket.
-const PATH_LIMIT: usize = 107;
+// The most bytes of a path in the address of a socket.
+const SOCKET_PATH_LIMIT: usize = 107;
 
-/// Listens at a path. The file of a server that has ended is removed first; that of one that runs is not.
+// Listens at a path. The file of a server that has ended is removed first; that of one that runs is not.
 pub(crate) fn bind<R: Net + Files>(rt: &R, path: &str) -> io::Result<UnixListener> {
     match UnixListener::bind(rt, path) {
         Err(error) if error.kind() == ErrorKind::AddrInUse && is_left_over(rt, path) => {
@@ -35,7 +35,7 @@ fn is_left_over<R: Files>(rt: &R, path: &str) -> bool {
 // listens there does not notice.
 fn is_abandoned(path: &str) -> bool {
     let name = path.as_bytes();
-    if name.len() > PATH_LIMIT {
+    if name.len() > SOCKET_PATH_LIMIT {
         return false;
     }
     let mut address = [0u8; libc::net::_SS_SIZE];

@@ -8,7 +8,7 @@ use std::io::Eprint;
 use std::sync::Arc;
 use std::time::{Clock, Duration, Instant};
 
-/// The token of the waker, behind that of the socket for a stop.
+/// The token of the waker, after that of the socket for a stop.
 pub const WAKER: usize = STOP + 1;
 
 /// A poll of its own, and the wakers of all threads.

@@ -63,7 +63,7 @@ impl Stream {
         }
     }
 
-    /// Tells the peer that no more comes.
+    /// Notifies the peer that no more comes.
     pub fn end_writing(&self) -> io::Result<()> {
         match self {
             Stream::Tcp(stream) => stream.shutdown(Shutdown::Write),

@@ -8,7 +8,7 @@ use std::net::TcpStream;
 use std::rt::HostRuntime;
 use std::time::Duration;
 
-/// How often a test asks before it gives up.
+// How often a test asks before it gives up.
 const TRIES: usize = 1_000_000;
 
 type HostLink = <MachineDoor<HostRuntime> as Door>::Conn;

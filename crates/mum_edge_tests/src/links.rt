@@ -1,4 +1,4 @@
-//! Links over sockets in memory: what comes behind a header, and what is sent at the end.
+//! Links over sockets in memory: what comes after a header, and what is sent at the end.
 
 use crate::memory::{Coming, HandBack, MemListener, MemSocket};
 use mum_base::Octets;
@@ -12,19 +12,19 @@ use std::collections::VecDeque;
 use std::net::Ipv6Addr;
 use std::sync::{Arc, OnceLock};
 
-/// A header of version 2 for a client at 203.0.113.7, over TCP and IPv4, with three bytes more behind its ports.
+// A header of version 2 for a client at 203.0.113.7, over TCP and IPv4, with three bytes more after its ports.
 const HEADER: &[u8] =
     b"\r\n\r\n\0\r\nQUIT\n\x21\x11\0\x0f\xcb\0\x71\x07\xc0\0\x02\x01\x9c\x40\xfc\xe2abc";
 
-/// What the client sends behind it: a Ping with a number.
+// What the client sends after it: a Ping with a number.
 const PING: &[u8] = b"\0\x03\0\0\0\x02\x08\x05";
 
-/// How often a test asks before it gives up.
+// How often a test asks before it gives up.
 const TRIES: usize = 100;
 
 type MemDoor = SocketDoor<MemListener, MemSocket>;
 
-/// A door to which one connection comes, with what its thread and it share, and where all is put that is written to it.
+// A door to which one connection comes, with what its thread and it share, and where all is put that is written to it.
 #[derive(Drop)]
 struct Trial {
     hub: Arc<Hub>,

@@ -4,7 +4,7 @@ use mum_pace::{LONG_FRAMES_LIMIT, LongFrames, Reservation, SHORT_LIMIT};
 use std::alloc::AllocError;
 use std::sync::Arc;
 
-/// The longest payload of the protocol, of which eight may be under way at once.
+// The longest payload of the protocol, of which eight may be under way at once.
 const LONGEST: u64 = 8_388_607;
 
 fn put_links(
@@ -18,7 +18,7 @@ fn put_links(
     Ok(())
 }
 
-/// Whether each may go on with a frame of the longest payload.
+// Whether each may go on with a frame of the longest payload.
 fn all_cover(links: &mut [Reservation]) -> bool {
     for link in links.iter_mut() {
         if !link.covers(LONGEST) {
@@ -60,7 +60,7 @@ fn a_frame_that_is_whole_gives_its_part_back(rt: HostRuntime) {
     assert!(rt; !other.covers(LONGEST));
     one.leave_frames_before(0);
     assert!(rt; other.covers(LONG_FRAMES_LIMIT));
-    // behind it comes a frame of another length
+    // after it comes a frame of another length
     assert!(rt; other.covers(LONGEST) && one.covers(LONGEST));
     other.give_back();
     assert!(rt; one.covers(LONG_FRAMES_LIMIT));

@@ -14,7 +14,7 @@ use std::io::ErrorKind;
 use std::net::Ipv6Addr;
 use std::sync::{Arc, OnceLock};
 
-/// How many bytes a socket gives in one read, and takes in one write.
+// How many bytes a socket gives in one read, and takes in one write.
 const AT_A_TIME: usize = 7;
 
 /// Where a socket puts what was written to it, once its link is shut.
@@ -45,7 +45,7 @@ pub struct MemSocket {
 }
 
 impl MemSocket {
-    /// One over which nothing came yet.
+    // One over which nothing came yet.
     fn new(alloc: Global, coming: Coming) -> io::Result<MemSocket>
         ensures address { IfOk result (λ socket. socket.address ≡ coming.address) }
         ensures bytes { IfOk result (λ socket. socket.source.left ≡ socket.all) }

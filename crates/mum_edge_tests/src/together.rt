@@ -8,15 +8,15 @@ use std::sync::Arc;
 use std::sync::atomic::{AtomicBool, AtomicU64, Ordering};
 use std::thread;
 
-/// As many roles as threads: the owner's, two of workers, and one behind these.
+// As many roles as threads: the owner's, two of workers, and one after these.
 const ROLES: u64 = 4;
 
 const LATER_ROLES: usize = 1;
 
-/// How often a role asks whether all others have come, before the test fails.
+// How often a role asks whether all others have come, before the test fails.
 const TRIES: u32 = 1_000_000;
 
-/// Where all roles are to be at once.
+// Where all roles are to be at once.
 #[derive(Drop)]
 struct Meeting {
     came: AtomicU64,
@@ -50,7 +50,7 @@ impl Meeting {
     }
 }
 
-/// A role that attends the meeting in its only turn.
+// A role that attends the meeting in its only turn.
 #[derive(Drop)]
 struct Attendant {
     meeting: Arc<Meeting>,

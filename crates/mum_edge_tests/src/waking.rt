@@ -4,14 +4,14 @@ use mum_link::{Hub, LaterRoles};
 use std::alloc::Global;
 use std::process::Abort;
 
-/// The threads of the owner, of the workers, and of the roles behind these.
+// The threads of the owner, of the workers, and of the roles after these.
 const OWNER: usize = 0;
 
 const WORKERS: usize = 1;
 
 const LATER: usize = 2;
 
-/// What three threads share, of which each has one role.
+// What three threads share, of which each has one role.
 fn hub(rt: &impl Abort, alloc: Global, hear_owner: bool) -> Hub {
     let hub = Hub::new(alloc).expect(rt, "memory");
     hub.share(

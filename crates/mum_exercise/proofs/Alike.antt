@@ -1,20 +1,5 @@
 -- What a course comes to does not depend on the steps that are kept of it.
-use Rattle.std.proofs.Common.{◌≡◌, ℕ, ◌+◌, List, [], ◌∷◌, ◌++◌, Option, Some, None, refl, sym, ap, subst}
-use Rattle.std.specs.Prelude.{if◌then◌else◌, is_some, map}
-use Rattle.std.specs.List.{flat_map}
-use Rattle.mum_record.specs.declared.step.Step.{Step}
-use Rattle.mum_record.specs.declared.step.Step.TheVariants.{Drain, Edit, End, Frame, Look, Offer, Publish, Tell}
-use Rattle.mum_core.specs.Core.{CoreState, worker_at}
-use Rattle.mum_core.specs.Step.{does, illegal}
-use Rattle.mum_core.specs.declared.worker.Outgoing.{Outgoing}
-use Rattle.rand_pcg.specs.Lcg.{Lcg}
-use Rattle.mum_exercise.specs.Acts.{aiming, channel_frame, entering, linking, listening, self_muting, target_frame, user_frame, voice_frame}
-use Rattle.mum_exercise.specs.Draws.{drawn_round}
-use Rattle.mum_exercise.specs.Exercise.{CourseValue, IsAlike, acted, all_taken, answered, brings, commanded, counted, decided, delivered, exercised, informed, note, played, progress, spoken, taken, worker_of}
-use Rattle.mum_exercise.specs.declared.draws.Act.{Act}
-use Rattle.mum_exercise.specs.declared.draws.Act.TheVariants.{Talk, Enter, Link, SetSelfMute, Listen, Aim}
-use Rattle.mum_exercise.specs.declared.draws.Round.{Round}
-use Rattle.mum_exercise.specs.declared.tally.Tally.{Tally}
+use Rattle.mum_exercise.proofs.Common.{◌≡◌, ℕ, ◌+◌, List, [], ◌∷◌, ◌++◌, Option, Some, None, refl, sym, ap, subst, if◌then◌else◌, is_some, map, flat_map, Step, Drain, Edit, End, Frame, Look, Offer, Publish, Tell, CoreState, worker_at, does, illegal, Outgoing, Lcg, aiming, channel_frame, entering, linking, listening, self_muting, target_frame, user_frame, voice_frame, drawn_round, CourseValue, IsAlike, acted, all_taken, answered, brings, commanded, counted, decided, delivered, exercised, informed, note, played, progress, spoken, taken, worker_of, Act, Talk, Enter, Link, SetSelfMute, Listen, Aim, Round, Tally}
 use Rattle.mum_exercise.proofs.Turns.{plays_more}
 
 alike_by : (found : Option (ℕ × ℕ)) (one other one_after other_after : CourseValue) → IsAlike one other → IsAlike one_after other_after

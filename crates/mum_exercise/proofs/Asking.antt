@@ -1,25 +1,7 @@
 -- What a user of an exercise asks for fits one frame.
-use Rattle.std.proofs.Common.{◌≡◌, ℕ, ◌^◌, ◌<◌, ◌≤◌, Bool, List, [], ◌∷◌, length, Some, None, true, sym, ap, ◌∙◌, subst, arith}
-use Rattle.std.specs.Prelude.{ℤ, IfOk, Result, codes, decimal}
-use Rattle.std.proofs.lemmas.Fmt.{length-decimal-le}
-use Rattle.std.proofs.lemmas.List.{length-append}
-use Rattle.std.proofs.lemmas.Result.{IfOk-weaker}
-use Rattle.mum_fields.specs.declared.shape.Kind.TheVariants.{Raw}
-use Rattle.mum_fields.specs.declared.shape.Label.TheVariants.{Repeated}
-use Rattle.mum_fields.specs.Table.{Table, layout, parts, spelled}
-use Rattle.mum_frame.specs.Frame.{IsOneFrame, spelling_of}
-use Rattle.mum_frame.specs.declared.frame.TheConstants.{PAYLOAD_LIMIT}
-use Rattle.mum_msg_rule.specs.Messages.{target_block, voice_target}
-use Rattle.mum_msg_rule.specs.declared.target_block.TargetBlock.{TargetBlock}
-use Rattle.mum_msg_rule.specs.declared.voice_target.VoiceTarget.{VoiceTarget}
-use Rattle.mum_msg_state.specs.Messages.{authenticate, channel_state, user_state}
-use Rattle.mum_msg_state.specs.declared.authenticate.Authenticate.{Authenticate}
-use Rattle.mum_msg_state.specs.declared.channel_state.ChannelState.{ChannelState}
-use Rattle.mum_msg_state.specs.declared.user_state.UserState.{UserState}
-use Rattle.mum_notify.proofs.Bounds.{bound, items-few, row-few}
-use Rattle.mum_exercise.specs.Acts.{aiming, blank_channel, blank_user, entering, linking, listening, login, self_muting, user_name}
+use Rattle.mum_exercise.proofs.Common.{◌≡◌, ℕ, ◌^◌, ◌<◌, ◌≤◌, Bool, List, [], ◌∷◌, length, Some, None, true, sym, ap, ◌∙◌, subst, arith, ℤ, IfOk, Result, codes, decimal, length-decimal-le, length-append, IfOk-weaker, Raw, Repeated, Table, layout, parts, spelled, IsOneFrame, spelling_of, PAYLOAD_LIMIT, target_block, voice_target, TargetBlock, VoiceTarget, authenticate, channel_state, user_state, Authenticate, ChannelState, UserState, bound, items-few, row-few, aiming, blank_channel, blank_user, entering, linking, listening, login, self_muting, user_name}
 
--- what a short payload is spelled as is one frame
+-- what a short payload is encoded as is one frame
 pub frames_one : {E : Type 0} (kind : ℕ) (payload : List ℕ) (wire : Result (List ℕ) E) → kind < 2 ^ 16 → length payload ≤ PAYLOAD_LIMIT
     → IfOk wire (λ bytes. bytes ≡ spelling_of kind payload) → IfOk wire IsOneFrame
 frames_one kind payload wire fits short is =

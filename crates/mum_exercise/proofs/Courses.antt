@@ -1,24 +1,5 @@
 -- The steps of a course are a run from its opening, and lead to its core.
-use Rattle.std.proofs.Common.{◌≡◌, ℕ, zero, suc, List, [], ◌∷◌, ◌++◌, Option, Some, None, refl, ap, ◌∙◌}
-use Rattle.std.specs.Prelude.{map, if◌then◌else◌, is_some}
-use Rattle.std.specs.List.{flat_map}
-use Rattle.mum_record.specs.declared.step.Step.{Step}
-use Rattle.mum_record.specs.declared.step.Step.TheVariants.{Drain, Edit, End, Frame, Look, Offer, Open, Publish, Tell}
-use Rattle.mum_record.specs.declared.head.Version.TheVariants.{One}
-use Rattle.mum_core.specs.Core.{CoreState, start, worker_at}
-use Rattle.mum_core.specs.Laws.{IsRun, ran}
-use Rattle.mum_core.specs.Step.{does, illegal}
-use Rattle.mum_core.specs.declared.worker.Outgoing.{Outgoing}
-use Rattle.mum_exercise.specs.Acts.{aiming, channel_frame, entering, linking, listening, login_frame, self_muting, target_frame, user_frame, voice_frame}
-use Rattle.mum_exercise.specs.Draws.{drawn_round}
-use Rattle.mum_exercise.specs.Exercise.{CourseValue, Progress, acted, all_taken, answered, brings, commanded, counted, decided, delivered, document, exercised, joined, note, progress, spoken, taken, worker_of}
-use Rattle.mum_opening.specs.Opening.{opening}
-use Rattle.mum_exercise.specs.declared.draws.Act.{Act}
-use Rattle.mum_exercise.specs.declared.draws.Act.TheVariants.{Talk, Enter, Link, SetSelfMute, Listen, Aim}
-use Rattle.mum_exercise.specs.declared.draws.Round.{Round}
-use Rattle.mum_exercise.specs.declared.draws.TheConstants.{USERS}
-use Rattle.mum_exercise.specs.declared.exercise.TheConstants.{WORKERS}
-use Rattle.mum_exercise.specs.declared.tally.Tally.{Tally}
+use Rattle.mum_exercise.proofs.Common.{◌≡◌, ℕ, zero, suc, List, [], ◌∷◌, ◌++◌, Option, Some, None, refl, ap, ◌∙◌, map, if◌then◌else◌, is_some, flat_map, Step, Drain, Edit, End, Frame, Look, Offer, Open, Publish, Tell, One, CoreState, start, worker_at, IsRun, ran, does, illegal, Outgoing, aiming, channel_frame, entering, linking, listening, login_frame, self_muting, target_frame, user_frame, voice_frame, drawn_round, CourseValue, Progress, acted, all_taken, answered, brings, commanded, counted, decided, delivered, document, exercised, joined, note, progress, spoken, taken, worker_of, opening, Act, Talk, Enter, Link, SetSelfMute, Listen, Aim, Round, USERS, WORKERS, Tally}
 
 -- a course that began at this core
 pub record IsCourse (first : CoreState) (course : CourseValue) : Type 0 where

@@ -1,3 +1,4 @@
+mod Common
 pub mod Courses
 pub mod Documents
 pub mod Rounds

@@ -1,12 +1,5 @@
 -- What is done in each case of a round, and the round.
-use Rattle.std.proofs.Common.{◌≡◌, ℕ, ◌+◌, ◌<◌, ◌≤◌, true, false, refl, arith}
-use Rattle.std.proofs.lemmas.Bool.{lt-ltb, le-ltb, ne_eqb}
-use Rattle.std.specs.Prelude.{nat_lt, ◌==◌}
-use Rattle.mum_base.specs.declared.number.ChannelId.{ChannelId}
-use Rattle.rand_pcg.specs.Lcg.{Lcg}
-use Rattle.mum_exercise.specs.Draws.{drawn_below, drawn_act, drawn_round}
-use Rattle.mum_exercise.specs.declared.draws.Act.{Act}
-use Rattle.mum_exercise.specs.declared.draws.Act.TheVariants.{Talk, Enter, Link, SetSelfMute, Listen, Aim}
+use Rattle.mum_exercise.proofs.Common.{◌≡◌, ℕ, ◌+◌, ◌<◌, ◌≤◌, true, false, refl, arith, lt-ltb, le-ltb, ne_eqb, nat_lt, ◌==◌, ChannelId, Lcg, drawn_below, drawn_act, drawn_round, Act, Talk, Enter, Link, SetSelfMute, Listen, Aim}
 
 pub talks : (case target : ℕ) (before after : Lcg) → case < 10 → (target, after) ≡ drawn_below 2 before → (Talk target, after) ≡ drawn_act case before
 unfolding drawn_act

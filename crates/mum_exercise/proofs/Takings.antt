@@ -1,19 +1,5 @@
 -- What is taken of a course for each of several sessions.
-use Rattle.std.proofs.Common.{◌≡◌, ℕ, zero, suc, ◌+◌, ◌<◌, List, [], ◌∷◌, ◌++◌, length, get_or, take, Option, Some, None, refl, sym, ap, ◌∙◌, add-one}
-use Rattle.std.specs.Prelude.{if◌then◌else◌, is_some, map, replicate}
-use Rattle.std.specs.List.{flat_map}
-use Rattle.std.proofs.Math.Seq.{take-suc}
-use Rattle.std.proofs.lemmas.List.{append-nil}
-use Rattle.std.proofs.lemmas.List.Concat.{flat_map-append, flat_map-cons}
-use Rattle.std.proofs.lemmas.List.Sums.{fold-append}
-use Rattle.mum_base.specs.declared.number.SessionId.{SessionId}
-use Rattle.mum_notify.specs.declared.notice.Notice.{Notice}
-use Rattle.mum_record.specs.declared.step.Step.{Step}
-use Rattle.mum_record.specs.declared.step.Step.TheVariants.{Collect, Drain, Offer, Post}
-use Rattle.mum_core.specs.Core.{CoreState, worker_at}
-use Rattle.mum_core.specs.Step.{does, illegal}
-use Rattle.mum_core.specs.declared.worker.Outgoing.{Outgoing}
-use Rattle.mum_exercise.specs.Exercise.{CourseValue, all_taken, brings, delivered, informed, taken}
+use Rattle.mum_exercise.proofs.Common.{◌≡◌, ℕ, zero, suc, ◌+◌, ◌<◌, List, [], ◌∷◌, ◌++◌, length, get_or, take, Option, Some, None, refl, sym, ap, ◌∙◌, add-one, if◌then◌else◌, is_some, map, replicate, flat_map, take-suc, append-nil, flat_map-append, flat_map-cons, fold-append, SessionId, Notice, Step, Collect, Drain, Offer, Post, CoreState, worker_at, does, illegal, Outgoing, CourseValue, all_taken, brings, delivered, informed, taken}
 
 -- ---- one step
 

@@ -1,19 +1,5 @@
 -- The users of an exercise come one after the other, and so do its rounds.
-use Rattle.std.proofs.Common.{◌≡◌, ℕ, suc, ◌+◌, ◌<◌, ◌%◌, Bool, true, false, List, [], ◌∷◌, ◌++◌, refl, sym, ap, ◌∙◌, subst, add-one, arith}
-use Rattle.std.specs.Prelude.{if◌then◌else◌, nat_lt, ◌==◌}
-use Rattle.mum_base.specs.declared.number.ChannelId.{ChannelId}
-use Rattle.rand_pcg.specs.Lcg.{Lcg}
-use Rattle.rand_pcg.specs.Pcg.{pcg32}
-use Rattle.mum_exercise.specs.Draws.{drawn_act, drawn_below, drawn_round}
-use Rattle.mum_record.specs.declared.step.Step.TheVariants.{Open}
-use Rattle.mum_exercise.specs.Acts.{login_frame}
-use Rattle.mum_record.specs.Words.{line_of_words}
-use Rattle.mum_core.specs.declared.machine.Totals.{Totals}
-use Rattle.mum_exercise.specs.Exercise.{CourseValue, account_words, acted, commanded, joined, joins, numbers_words, played, progress, taken, worker_of}
-use Rattle.mum_exercise.specs.declared.draws.Act.{Act}
-use Rattle.mum_exercise.specs.declared.draws.Act.TheVariants.{Talk, Enter, Link, SetSelfMute, Listen, Aim}
-use Rattle.mum_exercise.specs.declared.draws.Round.{Round}
-use Rattle.mum_exercise.specs.declared.tally.Tally.{Tally}
+use Rattle.mum_exercise.proofs.Common.{◌≡◌, ℕ, suc, ◌+◌, ◌<◌, ◌%◌, Bool, true, false, List, [], ◌∷◌, ◌++◌, refl, sym, ap, ◌∙◌, subst, add-one, arith, if◌then◌else◌, nat_lt, ◌==◌, ChannelId, Lcg, pcg32, drawn_act, drawn_below, drawn_round, Open, login_frame, line_of_words, Totals, CourseValue, account_words, acted, commanded, joined, joins, numbers_words, played, progress, taken, worker_of, Act, Talk, Enter, Link, SetSelfMute, Listen, Aim, Round, Tally}
 
 -- ---- users
 

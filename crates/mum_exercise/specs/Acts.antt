@@ -1,15 +1,14 @@
 -- What a user of an exercise asks for, as frames on the wire.
 use Rattle.std.specs.Prelude.{ℕ, ◌+◌, Bool, true, List, [], ◌∷◌, ◌++◌, Some, None, codes, decimal}
-use Rattle.mum_fields.specs.Table.{spelled}
 use Rattle.mum_frame.specs.Frame.{spelling_of}
 use Rattle.mum_frame.specs.declared.kind.TheConstants.{AUTHENTICATE, CHANNEL_STATE, UDP_TUNNEL, USER_STATE, VOICE_TARGET}
-use Rattle.mum_msg_rule.specs.Messages.{voice_target}
-use Rattle.mum_msg_rule.specs.declared.voice_target.VoiceTarget.{VoiceTarget}
+use Rattle.mum_fields.specs.Table.{spelled}
+use Rattle.mum_voice.specs.Varint.{shortest_word}
 use Rattle.mum_msg_state.specs.Messages.{authenticate, channel_state, user_state}
 use Rattle.mum_msg_state.specs.declared.authenticate.Authenticate.{Authenticate}
-use Rattle.mum_msg_state.specs.declared.channel_state.ChannelState.{ChannelState}
-use Rattle.mum_msg_state.specs.declared.user_state.UserState.{UserState}
-use Rattle.mum_voice.specs.Varint.{shortest_word}
+use Rattle.mum_msg_state.specs.declared.{channel_state.ChannelState.ChannelState, user_state.UserState.UserState}
+use Rattle.mum_msg_rule.specs.Messages.{voice_target}
+use Rattle.mum_msg_rule.specs.declared.voice_target.VoiceTarget.{VoiceTarget}
 
 -- ---- messages
 

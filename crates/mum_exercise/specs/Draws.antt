@@ -1,10 +1,8 @@
 -- What an exercise draws: each draw is one word of the generator, modulo a number.
 use Rattle.std.specs.Prelude.{ℕ, ◌+◌, ◌%◌, ◌==◌, nat_lt, if◌then◌else◌}
-use Rattle.rand_pcg.specs.Lcg.{Lcg, increment_of, started}
-use Rattle.rand_pcg.specs.Pcg.{multiplier_64, pcg32}
-use Rattle.mum_exercise.specs.declared.draws.Act.{Act}
+use Rattle.rand_pcg.specs.{Lcg.Lcg, Lcg.increment_of, Lcg.started, Pcg.multiplier_64, Pcg.pcg32}
+use Rattle.mum_exercise.specs.declared.draws.{Act.Act, Round.Round}
 use Rattle.mum_exercise.specs.declared.draws.Act.TheVariants.{Talk, Enter, Link, SetSelfMute, Listen, Aim}
-use Rattle.mum_exercise.specs.declared.draws.Round.{Round}
 
 -- a draw below n, and the generator after it
 unfoldable pub drawn_below : ℕ → Lcg → ℕ × Lcg

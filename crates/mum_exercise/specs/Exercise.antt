@@ -1,36 +1,29 @@
 -- An exercise: a session of 16 users that is drawn from a seed, each step after what the steps before it came to.
 use Rattle.std.specs.Prelude.{◌≡◌, ℕ, zero, suc, ◌-◌, ◌/◌, ◌%◌, false, List, [], ◌∷◌, ◌++◌, fold, map, Option, Some, None, is_some, codes, decimal, if◌then◌else◌}
-use Rattle.std.specs.List.{flat_map, join_with_byte}
-use Rattle.std.specs.Option.{option_map, option_map_or}
+use Rattle.std.specs.{List.flat_map, List.join_with_byte, Option.option_map, Option.option_map_or}
 use Rattle.rand_pcg.specs.Lcg.{Lcg}
 use Rattle.mum_base.specs.declared.reply.Mark.{Mark}
-use Rattle.mum_base.specs.declared.reply.Mark.TheVariants as marks
-use Rattle.mum_notify.specs.declared.notice.Notice.{Notice}
 use Rattle.mum_record.specs.Words.{line_of_words}
-use Rattle.mum_record.specs.declared.head.Version.TheVariants.{One}
-use Rattle.mum_record.specs.declared.step.Step.{Step}
+use Rattle.mum_record.specs.declared.{head.Version.TheVariants.One, step.Step.Step}
 use Rattle.mum_record.specs.declared.step.Step.TheVariants.{Open, Frame, Edit, Publish, Tell, Look, Offer, Post, Drain, Collect, End}
-use Rattle.mum_core.specs.Connection.{is_accepted}
+use Rattle.mum_notify.specs.declared.notice.Notice.{Notice}
+use Rattle.mum_opening.specs.Opening.{opening}
+use Rattle.mum_core.specs.{Connection.is_accepted, Step.does, Step.illegal}
 use Rattle.mum_core.specs.Core.{CoreState, connection_at, start, up, worker_at}
-use Rattle.mum_core.specs.Step.{does, illegal}
-use Rattle.mum_core.specs.declared.machine.Totals.{Totals}
-use Rattle.mum_core.specs.declared.worker.Outgoing.{Outgoing}
+use Rattle.mum_core.specs.declared.{machine.Totals.Totals, worker.Outgoing.Outgoing}
 use Rattle.mum_exercise.specs.Acts.{aiming, channel_frame, entering, linking, listening, login_frame, self_muting, target_frame, user_frame, voice_frame}
 use Rattle.mum_exercise.specs.Draws.{drawn_round, seeded}
-use Rattle.mum_opening.specs.Opening.{opening}
-use Rattle.mum_exercise.specs.declared.draws.Act.{Act}
+use Rattle.mum_exercise.specs.declared.draws.{Act.Act, Round.Round, TheConstants.USERS}
+use Rattle.mum_exercise.specs.declared.{exercise.TheConstants.WORKERS, tally.Tally.Tally}
 use Rattle.mum_exercise.specs.declared.draws.Act.TheVariants.{Talk, Enter, Link, SetSelfMute, Listen, Aim}
-use Rattle.mum_exercise.specs.declared.draws.Round.{Round}
-use Rattle.mum_exercise.specs.declared.draws.TheConstants.{USERS}
-use Rattle.mum_exercise.specs.declared.exercise.TheConstants.{WORKERS}
-use Rattle.mum_exercise.specs.declared.tally.Tally.{Tally}
+use Rattle.mum_base.specs.declared.reply.Mark.TheVariants as marks
 
 -- channel i is named c and i, and is under the whole part of (i - 1) / 2
 abbrev pub channel_text : ℕ → List ℕ
 channel_text i =
     codes "{\"id\":" ++ decimal i ++ codes ",\"parent\":" ++ decimal ((i - 1) / 2) ++ codes ",\"name\":\"c" ++ decimal i ++ codes "\"}"
 
--- the configuration: channels 1 to 7, parted by commas
+-- the configuration: channels 1 to 7, separated by commas
 unfoldable pub document : List ℕ
 document = codes "{\"channels\":[" ++ join_with_byte 44 (map channel_text (1 ∷ 2 ∷ 3 ∷ 4 ∷ 5 ∷ 6 ∷ 7 ∷ [])) ++ codes "]}"
 
@@ -71,7 +64,7 @@ worker_of c = (c - 1) % WORKERS
 
 -- ---- a command
 
--- what was decided of the command of a connection, and is not told yet
+-- what was decided of the command of a connection, and is not sent yet
 abbrev pub decided : CoreState → ℕ → Option Mark
 decided core c = option_map (λ reply. reply.mark) (connection_at core c).decided
 
@@ -82,7 +75,7 @@ counted tally (Some (marks.Refused kind)) = record tally { refused = up tally.re
 counted tally (Some (marks.Ignored why)) = record tally { ignored = up tally.ignored }
 counted tally others = tally
 
--- an accepted command is told with the published revision, any other without one
+-- an accepted command is sent with the published revision, any other without one
 abbrev pub note : CoreState → Option Mark → Option ℕ
 note core mark = if option_map_or is_accepted mark false then Some core.published else None
 
@@ -93,7 +86,7 @@ brings notice = Post ∷ Collect notice.to.0 ∷ []
 abbrev pub informed : CourseValue → CourseValue
 informed course = all_taken course (flat_map brings course.core.pending)
 
--- what was decided of a command is counted and told, and the notices of it go to all
+-- what was decided of a command is counted and sent, and the notices of it go to all
 abbrev pub answered : ℕ → CourseValue → CourseValue
 answered c course =
     let mark = decided course.core c in
@@ -140,7 +133,7 @@ acted number c (Aim channel) course = commanded c (target_frame (aiming channel.
 abbrev pub played : ℕ → Round → CourseValue → CourseValue
 played number round course = acted number round.connection round.act course
 
--- the course after so many rounds, and the generator from which the next is drawn
+-- the course after n rounds, and the generator from which the next is drawn
 pub record Progress : Type 0 where
   pub course : CourseValue
   pub draws : Lcg
@@ -152,7 +145,7 @@ progress seed (suc n) =
     let drawn = drawn_round before.draws in
     record { course = played (suc n) drawn.0 before.course; draws = drawn.1 }
 
--- the course of an exercise of so many rounds, to the end of its recording
+-- the course of an exercise of n rounds, to the end of its recording
 unfoldable pub exercised : ℕ → ℕ → CourseValue
 exercised seed rounds = taken (progress seed rounds).course End
 

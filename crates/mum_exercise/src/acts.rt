@@ -17,13 +17,13 @@ use mum_voice::write_varint;
 use std::alloc::Global;
 use std::mem::drop;
 
-/// The header of a voice packet of Opus to target 0.
+// The header of a voice packet of Opus to target 0.
 const OPUS: u8 = 0x80;
 
-/// What stands behind the number of a packet: four bytes, the first of them their length.
+// What follows the number of a packet: four bytes, the first of them their length.
 const AUDIO: [u8; 4] = [0x03, 0xAA, 0xBB, 0xCC];
 
-/// A list of one element.
+// A list of one element.
 fn one<T: Drop>(alloc: Global, element: T) -> Result<Items<T>, OutOfMemory>
     ensures { IfOk result (λ items. items ≡ element ∷ []) }
 {
@@ -32,7 +32,7 @@ fn one<T: Drop>(alloc: Global, element: T) -> Result<Items<T>, OutOfMemory>
     Ok(items)
 }
 
-/// A UserState that says nothing.
+// A UserState that says nothing.
 fn blank_user(alloc: Global) -> UserState
     ensures { result ≡ blank_user }
 {
@@ -58,7 +58,7 @@ fn blank_user(alloc: Global) -> UserState
     }
 }
 
-/// A ChannelState that says nothing.
+// A ChannelState that says nothing.
 fn blank_channel(alloc: Global) -> ChannelState
     ensures { result ≡ blank_channel }
 {
@@ -76,7 +76,7 @@ fn blank_channel(alloc: Global) -> ChannelState
     }
 }
 
-/// The frame of a message.
+// The frame of a message.
 fn frame_of<M: Message + Drop>(alloc: Global, kind: u16, message: M) -> Result<Octets, OutOfMemory>
     requires { length (spelled M.rows message) ≤ PAYLOAD_LIMIT }
     ensures frame { IfOk result (λ bytes. bytes ≡ spelling_of kind (spelled M.rows message)) }
@@ -88,7 +88,7 @@ fn frame_of<M: Message + Drop>(alloc: Global, kind: u16, message: M) -> Result<O
     put_frame(alloc, kind, payload.as_slice())
 }
 
-/// The name of user `number`.
+// The name of user `number`.
 fn user_name(alloc: Global, number: u32) -> Result<Text, OutOfMemory>
     ensures { IfOk result (λ name. name ≡ user_name number) }
 {
@@ -96,7 +96,7 @@ fn user_name(alloc: Global, number: u32) -> Result<Text, OutOfMemory>
     Ok(Text::from_string(name))
 }
 
-/// The login of user `number`.
+// The login of user `number`.
 pub(crate) fn login_frame(alloc: Global, number: u32) -> Result<Octets, OutOfMemory>
     ensures frame { IfOk result (λ bytes. bytes ≡ login_frame number) }
     ensures one { IfOk result IsOneFrame }
@@ -111,7 +111,7 @@ pub(crate) fn login_frame(alloc: Global, number: u32) -> Result<Octets, OutOfMem
     frame_of(alloc, AUTHENTICATE, message)
 }
 
-/// To enter a channel.
+// To enter a channel.
 pub(crate) fn enter_frame(alloc: Global, channel: ChannelId) -> Result<Octets, OutOfMemory>
     ensures frame { IfOk result (λ bytes. bytes ≡ user_frame (entering channel.0)) }
     ensures one { IfOk result IsOneFrame }
@@ -121,7 +121,7 @@ pub(crate) fn enter_frame(alloc: Global, channel: ChannelId) -> Result<Octets, O
     frame_of(alloc, USER_STATE, message)
 }
 
-/// To mute oneself, or no longer.
+// To mute oneself, or no longer.
 pub(crate) fn self_mute_frame(alloc: Global, muted: bool) -> Result<Octets, OutOfMemory>
     ensures frame { IfOk result (λ bytes. bytes ≡ user_frame (self_muting muted)) }
     ensures one { IfOk result IsOneFrame }
@@ -131,7 +131,7 @@ pub(crate) fn self_mute_frame(alloc: Global, muted: bool) -> Result<Octets, OutO
     frame_of(alloc, USER_STATE, message)
 }
 
-/// To listen to a channel from now on.
+// To listen to a channel from now on.
 pub(crate) fn listen_frame(alloc: Global, channel: ChannelId) -> Result<Octets, OutOfMemory>
     ensures frame { IfOk result (λ bytes. bytes ≡ user_frame (listening channel.0)) }
     ensures one { IfOk result IsOneFrame }
@@ -142,7 +142,7 @@ pub(crate) fn listen_frame(alloc: Global, channel: ChannelId) -> Result<Octets, 
     frame_of(alloc, USER_STATE, message)
 }
 
-/// To link a channel with the root.
+// To link a channel with the root.
 pub(crate) fn link_frame(alloc: Global, channel: ChannelId) -> Result<Octets, OutOfMemory>
     ensures frame { IfOk result (λ bytes. bytes ≡ channel_frame (linking channel.0)) }
     ensures one { IfOk result IsOneFrame }
@@ -154,7 +154,7 @@ pub(crate) fn link_frame(alloc: Global, channel: ChannelId) -> Result<Octets, Ou
     frame_of(alloc, CHANNEL_STATE, message)
 }
 
-/// To aim the first voice target at a channel and those below it.
+// To aim the first voice target at a channel and those below it.
 pub(crate) fn aim_frame(alloc: Global, channel: ChannelId) -> Result<Octets, OutOfMemory>
     ensures frame { IfOk result (λ bytes. bytes ≡ target_frame (aiming channel.0)) }
     ensures one { IfOk result IsOneFrame }
@@ -173,7 +173,7 @@ pub(crate) fn aim_frame(alloc: Global, channel: ChannelId) -> Result<Octets, Out
     frame_of(alloc, VOICE_TARGET, message)
 }
 
-/// The voice packet of a number, to target 0 or 1.
+// The voice packet of a number, to target 0 or 1.
 fn packet(alloc: Global, target: u8, number: u64) -> Result<Octets, OutOfMemory>
     requires { target < 2 }
     ensures bytes { IfOk result (λ bytes. bytes ≡ packet_bytes target number) }
@@ -186,7 +186,7 @@ fn packet(alloc: Global, target: u8, number: u64) -> Result<Octets, OutOfMemory>
     Ok(Octets::from_vec(bytes))
 }
 
-/// The frame of a voice packet of this number, to target 0 or 1.
+// The frame of a voice packet of this number, to target 0 or 1.
 pub(crate) fn voice_frame(alloc: Global, target: u8, number: u64) -> Result<Octets, OutOfMemory>
     requires { target < 2 }
     ensures frame { IfOk result (λ bytes. bytes ≡ voice_frame target number) }

@@ -12,10 +12,10 @@ use std::marker::Model;
 /// How many users an exercise has: those of the connections 1 to 16.
 pub const USERS: u32 = 16;
 
-/// How many channels an exercise has, with the root: those of the numbers 0 to 7.
+// How many channels an exercise has, with the root: those of the numbers 0 to 7.
 const CHANNELS: u32 = 8;
 
-/// How many cases a round is drawn from.
+// How many cases a round is drawn from.
 const CASES: u32 = 16;
 
 /// What a user does in a round.
@@ -67,7 +67,7 @@ impl Draws {
         }
     }
 
-    /// The next word of the generator, modulo a number that is not 0.
+    // The next word of the generator, modulo a number that is not 0.
     #[tactic(auto, unfolding(crate::specs::Draws::drawn_below))]
     fn below(&mut self, bound: u32) -> u32
         requires { 0 < bound }
@@ -77,14 +77,14 @@ impl Draws {
         self.generator.next_word() % bound
     }
 
-    /// A channel, by one draw.
+    // A channel, by one draw.
     fn channel(&mut self) -> ChannelId
         ensures { (result.0, self.new) ≡ drawn_below CHANNELS self.old }
     {
         ChannelId(self.below(CHANNELS))
     }
 
-    /// What is done in the case of this number, by one draw.
+    // What is done in the case of this number, by one draw.
     fn act(&mut self, case: u32) -> Act
         ensures { (result, self.new) ≡ drawn_act case self.old }
     {

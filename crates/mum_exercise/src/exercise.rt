@@ -1,6 +1,6 @@
 //! An exercise: a session of 16 users that is drawn from a seed. What a command needs next, whom a packet
-//! reaches and who is told of an edit is known only once the steps before were taken, so the steps are taken
-//! while they are drawn.
+//! reaches and who is notified of an edit is known only once the steps before were taken, so the steps are
+//! taken while they are drawn.
 
 ghost use Rattle.std.specs.Prelude.{◌≡◌, ◌<◌, ◌^◌, ◌++◌, ◌∷◌, [], ℕ, IfOk, IfSome, None, OnOk, length, map};
 ghost use Rattle.std.specs.Prelude.{replicate, slice_index, string_bytes};
@@ -43,7 +43,7 @@ pub fn numbers()
 pub const DOCUMENT: &str =
     "{\"channels\":[{\"id\":1,\"parent\":0,\"name\":\"c1\"},{\"id\":2,\"parent\":0,\"name\":\"c2\"},{\"id\":3,\"parent\":1,\"name\":\"c3\"},{\"id\":4,\"parent\":1,\"name\":\"c4\"},{\"id\":5,\"parent\":2,\"name\":\"c5\"},{\"id\":6,\"parent\":2,\"name\":\"c6\"},{\"id\":7,\"parent\":3,\"name\":\"c7\"}]}";
 
-/// A core at the configuration of an exercise, to which nothing happened.
+// A core at the configuration of an exercise, to which nothing happened.
 fn core_at_opening(alloc: Global) -> Result<PlainCore, OutOfMemory>
     ensures core { IfOk result (λ core. core ≡ start One (opening None document) WORKERS) }
     ensures good { document_fault document ≡ None }
@@ -52,21 +52,21 @@ fn core_at_opening(alloc: Global) -> Result<PlainCore, OutOfMemory>
     PlainCore::begin(alloc, Version::One, WORKERS, opening)
 }
 
-/// The worker of a connection: they are dealt out in turn.
+// The worker of a connection: they are dealt out in turn.
 fn worker_of(connection: u32) -> u32
     ensures { result ≡ worker_of connection }
 {
     connection.saturating_sub(1) % u32::from(WORKERS)
 }
 
-/// Bytes fit eight bits, as their type says.
+// Bytes fit eight bits, as their type says.
 fn are_bytes(bytes: &[u8])
     ensures { (place : ℕ) → slice_index bytes.now place < 256 }
 {
     let _ = bytes;
 }
 
-/// The step by which the worker of a connection takes a frame.
+// The step by which the worker of a connection takes a frame.
 fn frame_step(connection: u32, bytes: Octets) -> Step
     requires { IsOneFrame bytes }
     ensures step { result ≡ Frame connection bytes }
@@ -76,14 +76,14 @@ fn frame_step(connection: u32, bytes: Octets) -> Step
     Step::Frame { connection, bytes }
 }
 
-/// An exercise that is under way.
+// An exercise that is under way.
 #[derive(Drop)]
 struct Course {
     core: PlainCore,
     /// The steps that were taken.
     steps: Vec<Step>,
     tally: Tally,
-    /// What the last step told.
+    /// What the last step reported.
     text: String,
 }
 
@@ -96,7 +96,7 @@ impl Model for Course {
 }
 
 impl Course {
-    /// A course in which nothing happened.
+    // A course in which nothing happened.
     fn open(alloc: Global) -> Result<Course, OutOfMemory>
         ensures { IfOk result (λ course. course ≡ begun) }
     {
@@ -108,7 +108,7 @@ impl Course {
         })
     }
 
-    /// The line that tells what came of an exercise of a seed, of so many rounds.
+    // The line that reports what came of an exercise of a seed, of n rounds.
     fn account(&self, alloc: Global, seed: u64, rounds: u32) -> Result<String, OutOfMemory>
         ensures { IfOk result (λ line. string_bytes line
             ≡ line_of_words (numbers_words seed rounds self.now.tally self.now.core.totals) ++ 10 ∷ []) }
@@ -116,7 +116,7 @@ impl Course {
         account_of(alloc, seed, rounds, self.tally, self.core.totals())
     }
 
-    /// Takes a step where it is allowed. What an error leaves behind is of no use.
+    // Takes a step where it is allowed. What an error leaves is of no use.
     fn take(&mut self, step: Step) -> Result<(), OutOfMemory>
         requires { IsRecordable step }
         ensures { OnOk result (self.new ≡ taken self.old step) }
@@ -135,7 +135,7 @@ impl Course {
         }
     }
 
-    /// Posts the next notice, and lets a connection collect it.
+    // Posts the next notice, and lets a connection collect it.
     fn bring(&mut self, connection: u32) -> Result<(), OutOfMemory>
         ensures { OnOk result (self.new ≡ all_taken self.old (Post ∷ Collect connection ∷ [])) }
     {
@@ -143,7 +143,7 @@ impl Course {
         self.take(Step::Collect { connection })
     }
 
-    /// Posts a notice for each of these sessions, and lets it collect.
+    // Posts a notice for each of these sessions, and lets it collect.
     fn bring_each(&mut self, recipients: &[SessionId]) -> Result<(), OutOfMemory>
         ensures { OnOk result (self.new ≡ all_taken self.old
             (flat_map (λ session. Post ∷ Collect session.0 ∷ []) recipients.now)) }
@@ -154,14 +154,14 @@ impl Course {
         Ok(())
     }
 
-    /// For whom the notices are that are pending.
+    // For whom the notices are that are pending.
     fn recipients(&self) -> Result<Vec<SessionId>, OutOfMemory>
         ensures { IfOk result (λ sessions. sessions.items ≡ map (λ notice. notice.to) self.now.core.pending) }
     {
         self.core.pending()
     }
 
-    /// Posts each notice that is pending, and lets its recipient collect it.
+    // Posts each notice that is pending, and lets its recipient collect it.
     fn inform(&mut self) -> Result<(), OutOfMemory>
         ensures { OnOk result (self.new ≡ informed self.old) }
     {
@@ -169,7 +169,7 @@ impl Course {
         self.bring_each(&recipients)
     }
 
-    /// The note by which a command is told of which this was decided.
+    // The note with which a command of which this was decided is answered.
     fn note(&self, mark: Option<Mark>) -> Option<u64>
         ensures note { result ≡ note self.now.core mark }
         ensures fits { IfSome result (λ revision. revision < 2 ^ 64) }
@@ -180,7 +180,7 @@ impl Course {
         }
     }
 
-    /// Tells a connection what was decided of its command, and all what came of it.
+    // Sends a connection what was decided of its command, and all what came of it.
     fn answer(&mut self, connection: u32) -> Result<(), OutOfMemory>
         ensures { OnOk result (self.new ≡ answered connection self.old) }
     {
@@ -194,7 +194,7 @@ impl Course {
         self.inform()
     }
 
-    /// Brings a command of a connection, from its frame to the last notice of it.
+    // Brings a command of a connection, from its frame to the last notice of it.
     fn command(&mut self, connection: u32, bytes: Octets) -> Result<(), OutOfMemory>
         requires { IsOneFrame bytes }
         ensures { OnOk result (self.new ≡ commanded connection bytes self.old) }
@@ -205,7 +205,7 @@ impl Course {
         self.answer(connection)
     }
 
-    /// Offers a copy of a worker for each of these sessions.
+    // Offers a copy of a worker for each of these sessions.
     fn offer_each(&mut self, worker: u32, audience: &[SessionId]) -> Result<(), OutOfMemory>
         ensures { OnOk result (self.new ≡ all_taken self.old (replicate (length audience.now) (Offer worker))) }
     {
@@ -215,14 +215,14 @@ impl Course {
         Ok(())
     }
 
-    /// A connection drains a copy.
+    // A connection drains a copy.
     fn drain(&mut self, connection: u32) -> Result<(), OutOfMemory>
         ensures { OnOk result (self.new ≡ taken self.old (Drain connection)) }
     {
         self.take(Step::Drain { connection })
     }
 
-    /// Each of these sessions drains a copy.
+    // Each of these sessions drains a copy.
     fn drain_each(&mut self, audience: &[SessionId]) -> Result<(), OutOfMemory>
         ensures { OnOk result (self.new ≡ all_taken self.old
             (flat_map (λ session. Drain session.0 ∷ []) audience.now)) }
@@ -233,7 +233,7 @@ impl Course {
         Ok(())
     }
 
-    /// For whom the copies are that a worker has.
+    // For whom the copies are that a worker has.
     fn audience(&self, worker: u32) -> Result<Vec<SessionId>, OutOfMemory>
         ensures { IfOk result (λ sessions. sessions.items ≡ map (λ copy. copy.to)
             (worker_at self.now.core worker).copies) }
@@ -241,7 +241,7 @@ impl Course {
         self.core.recipients(worker)
     }
 
-    /// Offers a copy of a worker for each of these sessions, and lets each drain one.
+    // Offers a copy of a worker for each of these sessions, and lets each drain one.
     fn deliver_to(&mut self, worker: u32, audience: &[SessionId]) -> Result<(), OutOfMemory>
         ensures { OnOk result (self.new ≡ all_taken
             (all_taken self.old (replicate (length audience.now) (Offer worker)))
@@ -251,7 +251,7 @@ impl Course {
         self.drain_each(audience)
     }
 
-    /// Offers each copy that a worker has, and lets each of the audience drain one.
+    // Offers each copy that a worker has, and lets each of the audience drain one.
     fn deliver(&mut self, worker: u32) -> Result<(), OutOfMemory>
         ensures { OnOk result (self.new ≡ delivered worker self.old) }
     {
@@ -259,7 +259,7 @@ impl Course {
         self.deliver_to(worker, &audience)
     }
 
-    /// Brings a packet of a connection, from its frame to the last copy of it.
+    // Brings a packet of a connection, from its frame to the last copy of it.
     fn speak(&mut self, connection: u32, bytes: Octets) -> Result<(), OutOfMemory>
         requires { IsOneFrame bytes }
         ensures { OnOk result (self.new ≡ spoken connection bytes self.old) }
@@ -271,7 +271,7 @@ impl Course {
         self.deliver(worker)
     }
 
-    /// User `number` comes.
+    // User `number` comes.
     fn join(&mut self, alloc: Global, number: u32) -> Result<(), OutOfMemory>
         ensures { OnOk result (self.new ≡ joins number self.old) }
     {
@@ -284,7 +284,7 @@ impl Course {
         self.command(number, bytes)
     }
 
-    /// Does what is done in the round of a number.
+    // Does what is done in the round of a number.
     fn play(&mut self, alloc: Global, number: u64, round: Round) -> Result<(), OutOfMemory>
         requires { (target : ℕ) → round.act ≡ Talk target → target < 2 }
         ensures { OnOk result (self.new ≡ played number round self.old) }
@@ -300,7 +300,7 @@ impl Course {
         }
     }
 
-    /// All users come.
+    // All users come.
     fn join_all(&mut self, alloc: Global) -> Result<(), OutOfMemory>
         requires { self.old ≡ begun }
         ensures { OnOk result (self.new ≡ joined USERS) }
@@ -311,7 +311,7 @@ impl Course {
         Ok(())
     }
 
-    /// Plays so many rounds of a seed.
+    // Plays n rounds of a seed.
     fn play_all(&mut self, alloc: Global, seed: u64, rounds: u32) -> Result<(), OutOfMemory>
         requires { self.old ≡ joined USERS }
         ensures { OnOk result (self.new ≡ (progress seed rounds).course) }
@@ -324,14 +324,14 @@ impl Course {
         Ok(())
     }
 
-    /// The steps so far are kept no longer.
+    // The steps so far are kept no longer.
     fn forget(&mut self)
         ensures { self.new ≡ record self.old { steps = [] } }
     {
         self.steps.clear();
     }
 
-    /// Plays so many rounds of a seed, and keeps no step of them.
+    // Plays n rounds of a seed, and keeps no step of them.
     fn count_all(&mut self, alloc: Global, seed: u64, rounds: u32) -> Result<(), OutOfMemory>
         requires { self.old ≡ joined USERS }
         ensures { OnOk result (IsAlike self.new (progress seed rounds).course) }
@@ -345,7 +345,7 @@ impl Course {
         Ok(())
     }
 
-    /// All users come, so many rounds of a seed are played with no step kept, and the recording ends.
+    // All users come, n rounds of a seed are played with no step kept, and the recording ends.
     fn count(&mut self, alloc: Global, seed: u64, rounds: u32) -> Result<(), OutOfMemory>
         requires { self.old ≡ begun }
         ensures { OnOk result (IsAlike self.new (exercised seed rounds)) }
@@ -355,7 +355,7 @@ impl Course {
         self.take(Step::End)
     }
 
-    /// All users come, so many rounds of a seed are played, and the recording ends.
+    // All users come, n rounds of a seed are played, and the recording ends.
     fn run(&mut self, alloc: Global, seed: u64, rounds: u32) -> Result<(), OutOfMemory>
         requires { self.old ≡ begun }
         ensures { OnOk result (self.new ≡ exercised seed rounds) }
@@ -366,7 +366,7 @@ impl Course {
     }
 }
 
-/// The course of an exercise of a seed, of so many rounds, to the end of its recording.
+// The course of an exercise of a seed, of n rounds, to the end of its recording.
 fn exercised(alloc: Global, seed: u64, rounds: u32) -> Result<Course, OutOfMemory>
     ensures { IfOk result (λ course. course ≡ exercised seed rounds) }
 {
@@ -380,7 +380,7 @@ fn exercised(alloc: Global, seed: u64, rounds: u32) -> Result<Course, OutOfMemor
     }
 }
 
-/// What comes of the exercise of a seed, of so many rounds. Its steps are not kept.
+// What comes of the exercise of a seed, of n rounds. Its steps are not kept.
 fn counted(alloc: Global, seed: u64, rounds: u32) -> Result<Course, OutOfMemory>
     ensures { IfOk result (λ course. IsAlike course (exercised seed rounds)) }
 {
@@ -394,7 +394,7 @@ fn counted(alloc: Global, seed: u64, rounds: u32) -> Result<Course, OutOfMemory>
     }
 }
 
-/// The steps of the exercise of a seed, of so many rounds, as they stand in its recording.
+/// The steps of the exercise of a seed, of n rounds, as they are in its recording.
 pub fn generate(alloc: Global, seed: u64, rounds: u32) -> Result<Vec<Step>, OutOfMemory>
     ensures { IfOk result (λ steps. steps.items ≡ (exercised seed rounds).steps) }
 {
@@ -404,7 +404,7 @@ pub fn generate(alloc: Global, seed: u64, rounds: u32) -> Result<Vec<Step>, OutO
     Ok(steps)
 }
 
-/// The line that tells what came of an exercise.
+// The line that reports what came of an exercise.
 fn account_of(
     alloc: Global,
     seed: u64,
@@ -443,7 +443,7 @@ fn account_of(
     Ok(line)
 }
 
-/// Runs the exercise of a seed, of so many rounds: the line that tells what came of it.
+/// Runs the exercise of a seed, of n rounds: the line that reports what came of it.
 pub fn account(alloc: Global, seed: u64, rounds: u32) -> Result<String, OutOfMemory>
     ensures { IfOk result (λ line. string_bytes line ≡ account seed rounds) }
 {

@@ -9,7 +9,7 @@ ghost use Rattle.mum_opening.specs.Opening.{opening};
 ghost use Rattle.mum_record.specs.declared.head.Version.TheVariants.{One};
 
 /// The steps of an exercise are a recording: each is allowed where it comes, and they lead to the core of
-/// which the program tells.
+/// which the program reports.
 pub fn exercises_are_runs()
     ensures allowed { (seed rounds : ℕ) → IsRun (start One (opening None document) WORKERS)
         (exercised seed rounds).steps }

@@ -5,7 +5,7 @@ ghost use Rattle.mum_exercise.specs.Exercise.{counted};
 
 use mum_base::Mark;
 
-/// How many commands were decided so. Each count stands still at the end of its type.
+/// How many commands were decided so. Each count stays at the end of its type.
 #[derive(Clone, Copy)]
 pub struct Tally {
     pub accepted: u64,

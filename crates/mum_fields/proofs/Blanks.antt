@@ -1,23 +1,6 @@
 -- What the fields of a message come to where none is set.
-use Rattle.std.proofs.Common.{◌≡◌, ◌==◌, ℕ, ◌+◌, ◌<◌, ◌≤◌, Bool, true, false, cond, List, [], ◌∷◌, length, length-drop, get_or, drop, drop-cons, add-one, map, min, Option, Some, None, Result, Ok, refl, sym, ap, subst, ◌∙◌, arith}
-use Rattle.mum_fields.specs.declared.pass.Part.{Part}
-use Rattle.mum_fields.specs.declared.shape.FieldShape.{FieldShape}
-use Rattle.mum_fields.specs.declared.shape.Kind.{Kind}
-use Rattle.mum_fields.specs.declared.shape.Label.{Label}
-use Rattle.mum_fields.specs.declared.shape.Label.TheVariants.{Optional, Required, RequiredOr, Repeated}
-use Rattle.mum_fields.specs.declared.fault.FieldFault.{FieldFault}
-use Rattle.mum_fields.specs.Field.{Cursor}
-use Rattle.mum_fields.specs.Payload.{fields}
-use Rattle.mum_fields.specs.Table.{Layout, no_values, unset, row_items, items, lesser, missing, missing_in, is_set, has_value}
-use Rattle.mum_fields.specs.Survey.{Single, size, flat, form_of, has_room, whole_part, outlined}
-use Rattle.mum_fields.proofs.Kept.{unset-size}
-use Rattle.mum_fields.proofs.Outlines.{form-flat}
-use Rattle.mum_fields.proofs.Passes.{room-rises}
-use Rattle.mum_fields.proofs.ReadBack.{Rises}
-use Rattle.mum_fields.proofs.Sizes.{size-append}
-use Rattle.mum_fields.proofs.Steps.{after-nothing}
-use Rattle.mum_fields.proofs.Sums.{a_part, part-same}
-use Rattle.mum_fields.proofs.Taking.{fields-end}
+use Rattle.mum_fields.proofs.Common.{◌≡◌, ◌==◌, ℕ, ◌+◌, ◌<◌, ◌≤◌, Bool, true, false, cond, List, [], ◌∷◌, length, length-drop, get_or, drop, drop-cons, add-one, map, min, Option, Some, None, Result, Ok, refl, sym, ap, subst, ◌∙◌, arith, Part, FieldShape, Kind, Label, Optional, Required, RequiredOr, Repeated, FieldFault, Cursor, fields, Layout, no_values, unset, row_items, items, lesser, missing, missing_in, is_set, has_value, Single, size, flat, form_of, has_room, whole_part, outlined}
+use Rattle.mum_fields.proofs.{Kept.unset-size, Outlines.form-flat, Passes.room-rises, ReadBack.Rises, Sizes.size-append, Steps.after-nothing, Sums.a_part, Sums.part-same, Taking.fields-end}
 
 abbrev pub blank : List FieldShape → Part
 blank shapes = whole_part (flat shapes) (no_values (flat shapes))
@@ -72,7 +55,7 @@ required_or-missing label kind number other f is none = subst (λ l. missing_in 
     by_test : (test : Bool) → test ≡ false → cond test None (Some number) ≡ Some number
     by_test test is_false = rw is_false refl
 
--- numbers that rise: those behind are no less
+-- numbers that rise: those after are no less
 least-own : (n number : ℕ) (own others : Option ℕ) → n ≤ number → own ≡ Some number → lesser (Some number) others ≡ Some number → lesser (Some n) (lesser own others) ≡ Some n
 least-own n number own others less is least = ap (λ o. lesser (Some n) (lesser o others)) is ∙ ap (lesser (Some n)) least ∙ lesser-first n number less
 

@@ -1,14 +1,6 @@
--- What is decoded behind the pass over a payload.
-use Rattle.std.proofs.Common.{◌≡◌, ℕ, List, Option, Some, None, Result, Ok, Err, refl, sym, ap, subst, ◌∙◌}
-use Rattle.std.specs.Prelude.{IsOk}
-use Rattle.mum_fields.specs.declared.fault.FieldFault.{FieldFault}
-use Rattle.mum_fields.specs.declared.message.MessageFault.{MessageFault}
+-- What is decoded after the pass over a payload.
+use Rattle.mum_fields.proofs.Common.{◌≡◌, ℕ, List, Option, Some, None, Result, Ok, Err, refl, sym, ap, subst, ◌∙◌, IsOk, FieldFault, MessageFault, Entry, Walk, first_fault, unless, Refuses, Decodes, Gathers, Layout, Values, no_values, values_after, rules, missing, unless_missing, whole, gathered, spelled_size}
 use Rattle.mum_fields.specs.declared.message.MessageFault.TheVariants as faults
-use Rattle.mum_fields.specs.Field.{Entry}
-use Rattle.mum_fields.specs.Payload.{Walk}
-use Rattle.mum_fields.specs.Message.{first_fault, unless, Refuses, Decodes, Gathers}
-use Rattle.mum_fields.specs.Table.{Layout, Values, no_values, values_after, rules, missing, unless_missing, whole, gathered}
-use Rattle.mum_fields.specs.Survey.{spelled_size}
 
 abbrev told : {X : Type 0} → X → Result X MessageFault
 told x = Ok x
@@ -19,7 +11,7 @@ refused e = Err e
 same_fault : (d e : MessageFault) → refused {X = ℕ} d ≡ refused e → d ≡ e
 same_fault d e h = cc
 
--- what a payload comes to is never want of memory
+-- what a payload comes to is never out of memory
 never_starved : (form : Layout) (w : Walk Entry) → whole form (gathered form w) ≡ refused faults.OutOfMemory → ⊥
 never_starved form w h = by_fault (first_fault (rules form) w.items w.fault) refl
   where

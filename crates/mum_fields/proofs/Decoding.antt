@@ -1,8 +1,5 @@
 -- What is decoded, field by field: for the loops of decoders.
-use Rattle.std.proofs.Common.{◌≡◌, ℕ, List, [], ◌∷◌, None, Ok, refl, ap}
-use Rattle.mum_fields.specs.Field.{Entry}
-use Rattle.mum_fields.specs.Payload.{Walk, ended, first}
-use Rattle.mum_fields.specs.Message.{Rule, value_fault, first_fault, unless, outcome}
+use Rattle.mum_fields.proofs.Common.{◌≡◌, ℕ, List, [], ◌∷◌, None, Ok, refl, ap, Entry, Walk, ended, first, Rule, value_fault, first_fault, unless, outcome}
 
 -- a field with no fault of its own goes into what is made of the rest
 pub outcome-next : {M : Type 0} (rules : ℕ → Rule) (make then : List Entry → M) (w others : Walk Entry) (e : Entry) → w ≡ first e others → value_fault (rules e.number) e ≡ None

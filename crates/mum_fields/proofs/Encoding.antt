@@ -1,11 +1,5 @@
 -- What a decoder takes of fields that were written, item by item: for the laws that a message is read back.
-use Rattle.std.proofs.Common.{◌≡◌, ℕ, ◌+◌, eq-eqb, List, [], ◌∷◌, ◌++◌, length, Option, Some, None, refl, sym, ap, ◌∙◌, arith, append_assoc}
-use Rattle.std.proofs.lemmas.Bool.{ne_eqb}
-use Rattle.std.proofs.lemmas.List.{append-nil, length-append}
-use Rattle.std.proofs.lemmas.List.Concat.{flat_map-cons}
-use Rattle.mum_fields.specs.Field.{Entry}
-use Rattle.mum_fields.specs.Written.{Item, varint_item, block_item, spelling, written, placed_at, placed_from, block_items, each_number, each_block}
-use Rattle.mum_fields.specs.Message.{newer, last, longer, every, block_of, blocks_of, numbers_of}
+use Rattle.mum_fields.proofs.Common.{◌≡◌, ℕ, ◌+◌, eq-eqb, List, [], ◌∷◌, ◌++◌, length, Option, Some, None, refl, sym, ap, ◌∙◌, arith, append_assoc, ne_eqb, append-nil, length-append, flat_map-cons, Entry, Item, varint_item, block_item, spelling, written, placed_at, placed_from, block_items, each_number, each_block, newer, last, longer, every, block_of, blocks_of, numbers_of}
 
 -- items one after the other
 pub placed_from-append : (xs ys : List Item) (place : ℕ) → placed_from place (xs ++ ys) ≡ placed_from place xs ++ placed_from (place + length (written xs)) ys

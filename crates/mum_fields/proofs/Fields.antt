@@ -1,15 +1,5 @@
 -- The field that is read is in the grammar, and a field of the grammar is read, whatever follows.
-use Rattle.std.proofs.Common.{◌≡◌, ℕ, ◌+◌, ◌*◌, ◌/◌, ◌%◌, ◌<◌, ◌≤◌, ◌⊎◌, inl, inr, Bool, true, false, cond, eqb, ltb, ◌||◌, List, ◌++◌, length, take, Result, Ok, Err, refl, sym, ap, subst, ◌∙◌, arith, append_assoc, add-zero}
-use Rattle.std.specs.Int.{w32, w64, from_le_bytes}
-use Rattle.std.proofs.lemmas.Bool.{le-ltb, ltb-false, eqb-true, eqb-false, ne_eqb}
-use Rattle.std.proofs.lemmas.List.{take_at, drop_at, take-append-drop, length-append, length-take}
-use Rattle.mum_fields.specs.declared.fault.FaultKind.{FaultKind}
-use Rattle.mum_fields.specs.declared.fault.FaultKind.TheVariants.{Truncated, BadWireType, BadLength}
-use Rattle.mum_fields.specs.declared.fault.FieldFault.{FieldFault}
-use Rattle.mum_fields.specs.Fault.{fault}
-use Rattle.mum_fields.specs.Varint.{IsVarint, varint}
-use Rattle.mum_fields.specs.Content.{Content, Varint, Fixed8, Block, Fixed4}
-use Rattle.mum_fields.specs.Field.{Entry, Cursor, skip, wire_type, IsValue, IsField, ◌>>=◌, number_from, varint_in_front, bytes_at, fixed8_at, fixed4_at, placed, value_at, field_at}
+use Rattle.mum_fields.proofs.Common.{◌≡◌, ℕ, ◌+◌, ◌*◌, ◌/◌, ◌%◌, ◌<◌, ◌≤◌, ◌⊎◌, inl, inr, Bool, true, false, cond, eqb, ltb, ◌||◌, List, ◌++◌, length, take, Result, Ok, Err, refl, sym, ap, subst, ◌∙◌, arith, append_assoc, add-zero, w32, w64, from_le_bytes, le-ltb, ltb-false, eqb-true, eqb-false, ne_eqb, take_at, drop_at, take-append-drop, length-append, length-take, FaultKind, Truncated, BadWireType, BadLength, FieldFault, fault, IsVarint, varint, Content, Varint, Fixed8, Block, Fixed4, Entry, Cursor, skip, wire_type, IsValue, IsField, ◌>>=◌, number_from, varint_in_front, bytes_at, fixed8_at, fixed4_at, placed, value_at, field_at}
 use Rattle.mum_fields.proofs.Spellings.{varint-spelled, varint-found}
 
 -- ---- steps that did not fail

@@ -1,31 +1,10 @@
 -- What is kept of all fields of a message: one field of the payload goes into the part of its number, and the
 -- parts sum up to the message.
-use Rattle.std.proofs.Common.{◌≡◌, ◌==◌, ℕ, zero, suc, ◌+◌, ◌-◌, ◌^◌, ◌<◌, ◌≤◌, ◌&&◌, Bool, true, false, cond, ltb, leb, eq-eqb, List, [], ◌∷◌, ◌++◌, length, get_or, set, map, min, Option, Some, None, Result, Ok, Err, refl, sym, ap, subst, ◌∙◌, arith}
-use Rattle.std.specs.List.{list_all, AllByRecursion}
-use Rattle.std.specs.Prelude.{replicate}
-use Rattle.std.proofs.lemmas.List.{length-map}
-use Rattle.mum_fields.specs.declared.pass.TheConstants.{SLOTS}
-use Rattle.std.proofs.lemmas.Bool.{ne_eqb, lt-ltb, le-ltb, ltb-true, ltb-false, leb-true}
-use Rattle.mum_fields.specs.declared.fault.FieldFault.{FieldFault}
-use Rattle.mum_fields.specs.declared.message.MessageFault.{MessageFault}
+use Rattle.mum_fields.proofs.Common.{◌≡◌, ◌==◌, ℕ, zero, suc, ◌+◌, ◌-◌, ◌^◌, ◌<◌, ◌≤◌, ◌&&◌, Bool, true, false, cond, ltb, leb, eq-eqb, List, [], ◌∷◌, ◌++◌, length, get_or, set, map, min, Option, Some, None, Result, Ok, Err, refl, sym, ap, subst, ◌∙◌, arith, list_all, AllByRecursion, replicate, length-map, FIELD_LIMIT, ne_eqb, lt-ltb, le-ltb, ltb-true, ltb-false, leb-true, FieldFault, MessageFault, Part, FieldShape, Kind, Number, Utf8, Raw, Label, Optional, Required, RequiredOr, Repeated, Entry, last_number, Walk, Item, written, varint_item, block_item, Rule, any_block, first_fault, entry_fault, value_fault, One, scalar_number, unset, Value, Layout, Values, no_values, value_after, values_after, row_items, one_item, each_item, each_message, items, rules, lesser, least, missing, missing_in, is_set, has_items, has_value, rising, whole, gathered, size, spelled_size, Slot, Single, Many, number_of, label_of, flat, layer, form_of, has_number, is_sound, has_room, Held, part_of, held_after, slot_rule, own, later, AreParts, own_missing, Grows, Takes, answered, whole_part, outlined}
+use Rattle.mum_fields.proofs.{Outlines.ok-answered, Outlines.err-answered, Outlines.form-flat, ReadBack.Rises, ReadBack.first_true, ReadBack.second_true, Sizes.size-append, Sizes.size-some}
 use Rattle.mum_fields.specs.declared.message.MessageFault.TheVariants as faults
-use Rattle.mum_fields.specs.declared.pass.Part.{Part}
-use Rattle.mum_fields.specs.declared.shape.FieldShape.{FieldShape}
-use Rattle.mum_fields.specs.declared.shape.Kind.{Kind}
-use Rattle.mum_fields.specs.declared.shape.Kind.TheVariants.{Number, Utf8, Raw}
-use Rattle.mum_fields.specs.declared.shape.Label.{Label}
-use Rattle.mum_fields.specs.declared.shape.Label.TheVariants.{Optional, Required, RequiredOr, Repeated}
-use Rattle.mum_fields.specs.Field.{Entry, last_number}
-use Rattle.mum_fields.specs.Payload.{Walk}
-use Rattle.mum_fields.specs.Written.{Item, written, varint_item, block_item}
-use Rattle.mum_fields.specs.Message.{Rule, any_block, first_fault, entry_fault, value_fault}
-use Rattle.mum_fields.specs.Table.{One, scalar_number, unset, Value, Layout, Values, no_values, value_after, values_after, row_items, one_item, each_item, each_message, items, rules, lesser, least, missing, missing_in, is_set, has_items, has_value, rising, whole, gathered}
-use Rattle.mum_fields.specs.Survey.{size, spelled_size, Slot, Single, Many, number_of, label_of, flat, layer, form_of, has_number, is_sound, has_room, Held, part_of, held_after, slot_rule, own, later, AreParts, own_missing, Grows, Takes, answered, whole_part, outlined}
-use Rattle.mum_fields.proofs.Outlines.{ok-answered, err-answered, form-flat}
-use Rattle.mum_fields.proofs.ReadBack.{Rises, first_true, second_true}
-use Rattle.mum_fields.proofs.Sizes.{size-append, size-some}
 
--- ---- the values of a field and of those behind it
+-- ---- the values of a field and of those after it
 
 own-after : (slot : Slot) (others : Layout) (values : Values (layer slot others)) (e : Entry) → own slot others (values_after (layer slot others) values (e ∷ [])) ≡ held_after slot (own slot others values) e
 own-after (Single field) others values e = refl
@@ -161,7 +140,7 @@ some_part length missing = record { length = length; missing = missing }
 same_parts : (a b : ℕ) (x y : Option ℕ) → a ≡ b → x ≡ y → some_part a x ≡ some_part b y
 same_parts a b x y first second = rw (first, second) refl
 
--- the part of a field before those behind it
+-- the part of a field before those after it
 pub whole-more : (slot : Slot) (others : Layout) (values : Values (layer slot others)) (part rest : Part) (own_part : Option ℕ) → part ≡ part_of slot (own slot others values) → rest ≡ whole_part others (later slot others values)
     → own_part ≡ own_missing slot (own slot others values) (is_set others (later slot others values))
     → some_part (min (part.length + rest.length) (2 ^ 64 - 1)) (lesser own_part rest.missing) ≡ whole_part (layer slot others) values
@@ -273,11 +252,11 @@ singles-sound (field ∷ inside) = ap (λ test. has_number field && test) (singl
 
 pub number-sound : (slot : Slot) → is_sound slot ≡ true → number_of slot ≤ last_number
 number-sound (Single field) h = leb-true field.number last_number h
-number-sound (Many inside number) h = leb-true number last_number (first_true (leb number last_number) (leb (length inside) SLOTS && (list_all has_number inside && rising 0 (flat inside))) h)
+number-sound (Many inside number) h = leb-true number last_number (first_true (leb number last_number) (leb (length inside) FIELD_LIMIT && (list_all has_number inside && rising 0 (flat inside))) h)
 
 pub inside-room : (inside : List FieldShape) (number : ℕ) → is_sound (Many inside number) ≡ true → has_room (map Single inside) ≡ true
 inside-room inside number h =
-    let few = leb (length inside) SLOTS in
+    let few = leb (length inside) FIELD_LIMIT in
     let both = list_all has_number inside && rising 0 (flat inside) in
     rw (length-map inside Single, singles-sound inside, form-flat inside) (second_true (leb number last_number) (few && both) h)
 

@@ -1,3 +1,5 @@
+mod Common
+pub mod Public
 pub mod Varints
 pub mod Spellings
 pub mod Walks

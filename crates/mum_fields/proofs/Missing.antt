@@ -1,6 +1,5 @@
 -- The least of numbers that are missing, one by one.
-use Rattle.std.proofs.Common.{◌≡◌, ℕ, List, [], ◌∷◌, ◌++◌, Option, Some, None, refl, ap, sym, arith}
-use Rattle.mum_fields.specs.Table.{lesser, least}
+use Rattle.mum_fields.proofs.Common.{◌≡◌, ℕ, List, [], ◌∷◌, ◌++◌, Option, Some, None, refl, ap, sym, arith, lesser, least}
 
 lesser-assoc : (a b c : Option ℕ) → lesser (lesser a b) c ≡ lesser a (lesser b c)
 lesser-assoc None b c = refl

@@ -1,17 +1,7 @@
 -- The fault that is read is a fault of the relation, and each fault of the relation is read.
-use Rattle.std.proofs.Common.{◌≡◌, ℕ, zero, suc, ◌+◌, ◌-◌, ◌*◌, ◌/◌, ◌%◌, ◌<◌, ◌⊎◌, inl, inr, Bool, true, false, cond, eqb, ltb, ◌||◌, List, [], ◌∷◌, length, take, Result, Ok, Err, refl, sym, ap, subst, ◌∙◌, arith}
-use Rattle.std.specs.Int.{w32, w64, from_le_bytes}
-use Rattle.std.proofs.lemmas.Bool.{le-ltb, lt-ltb, ltb-true, ltb-false, eqb-true, eqb-false, ne_eqb}
-use Rattle.mum_fields.specs.declared.fault.FaultKind.{FaultKind}
-use Rattle.mum_fields.specs.declared.fault.FaultKind.TheVariants.{Truncated, BadWireType, BadVarint, BadLength}
-use Rattle.mum_fields.specs.declared.fault.FieldFault.{FieldFault}
-use Rattle.mum_fields.specs.Fault.{fault}
-use Rattle.mum_fields.specs.Varint.{above, varint_with, varint}
-use Rattle.mum_fields.specs.Content.{Varint, Fixed8, Block, Fixed4}
-use Rattle.mum_fields.specs.Field.{Entry, Cursor, IsNumber, skip, ◌>>=◌, number_from, varint_in_front, bytes_at, fixed8_at, fixed4_at, placed, value_at, field_at}
-use Rattle.mum_fields.specs.NoField.{HasNoVarint, cut, above_64_bits, BeginsWithVarint, BeginsWithKey, IsNoWireType, group_begins, group_ends, six, seven, HasFieldFault, no_key, no_number, no_wire_type, no_varint, cut_fixed8, no_length, long_block, cut_fixed4}
-use Rattle.mum_fields.proofs.VarintFaults.{varint-truncated, truncated-varint, varint-bad, bad-varint}
-use Rattle.mum_fields.proofs.Fields.{varint_at-found, varint_at-spelled}
+use Rattle.mum_fields.proofs.Common.{◌≡◌, ℕ, zero, suc, ◌+◌, ◌-◌, ◌*◌, ◌/◌, ◌%◌, ◌<◌, ◌⊎◌, inl, inr, Bool, true, false, cond, eqb, ltb, ◌||◌, List, [], ◌∷◌, length, take, Result, Ok, Err, refl, sym, ap, subst, ◌∙◌, arith, w32, w64, from_le_bytes, le-ltb, lt-ltb, ltb-true, ltb-false, eqb-true, eqb-false, ne_eqb, FaultKind, Truncated, BadWireType, BadVarint, BadLength, FieldFault, fault, above, varint_with, varint, Varint, Fixed8, Block, Fixed4, Entry, Cursor, IsNumber, skip, ◌>>=◌, number_from, varint_in_front, bytes_at, fixed8_at, fixed4_at, placed, value_at, field_at, HasNoVarint, above_64_bits, BeginsWithVarint, BeginsWithKey, IsNoWireType, group_begins, group_ends, six, seven, HasFieldFault, no_key, no_number, no_wire_type, no_varint, cut_fixed8, no_length, long_block, cut_fixed4}
+use Rattle.mum_fields.specs.NoField.{cut}
+use Rattle.mum_fields.proofs.{VarintFaults.varint-truncated, VarintFaults.truncated-varint, VarintFaults.varint-bad, VarintFaults.bad-varint, Fields.varint_at-found, Fields.varint_at-spelled}
 
 abbrev failed : {A : Type 0} → FieldFault → Result A FieldFault
 failed e = Err e

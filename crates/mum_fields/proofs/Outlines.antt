@@ -1,31 +1,8 @@
 -- What is kept of the fields of a message, field by field.
-use Rattle.std.proofs.Common.{◌≡◌, ◌==◌, ℕ, ◌+◌, ◌-◌, ◌^◌, ◌<◌, ◌≤◌, Bool, true, false, cond, ltb, eq-eqb, List, [], ◌∷◌, ◌++◌, map, min, length as lengthN, Option, Some, None, Result, Ok, Err, refl, sym, ap, subst, ◌∙◌, arith}
-use Rattle.std.specs.Prelude.{unwrap_or}
-use Rattle.std.specs.Option.{option_map}
-use Rattle.std.specs.Borrow.{Bor}
-use Rattle.std.proofs.lemmas.Bool.{ne_eqb, lt-ltb}
-use Rattle.std.proofs.lemmas.List.{map-append, append-nil}
-use Rattle.mum_fields.specs.declared.fault.FieldFault.{FieldFault}
-use Rattle.mum_fields.specs.declared.message.MessageFault.{MessageFault}
+use Rattle.mum_fields.proofs.Common.{◌≡◌, ◌==◌, ℕ, ◌+◌, ◌-◌, ◌^◌, ◌<◌, ◌≤◌, Bool, true, false, cond, ltb, eq-eqb, List, [], ◌∷◌, ◌++◌, map, min, lengthN, Option, Some, None, Result, Ok, Err, refl, sym, ap, subst, ◌∙◌, arith, unwrap_or, option_map, Bor, ne_eqb, lt-ltb, map-append, append-nil, FieldFault, MessageFault, Part, CodeValue, Scalar, FieldShape, Kind, Number, Utf8, Raw, Label, Optional, Required, RequiredOr, Repeated, Entry, Cursor, Walk, fields, packed, content_of, Item, written, varint_item, block_item, each_number, first_fault, value_fault, newer, or_else, text, Field, value_of, One, Value, Layout, Values, no_values, value_after, values_after, one_in, all_in, scalar_number, one_item, each_item, row_items, each_message, items, rule_of, rules, lesser, least, missing, missing_in, is_set, has_value, whole, gathered, unless_missing, decoded_by, cut, size, spelled_size, Slot, Single, Many, number_of, label_of, flat, layer, form_of, Held, part_of, held_after, slot_rule, own, later, own_missing, Grows, answered, whole_part, outlined, one_size, all_size}
+use Rattle.mum_fields.proofs.{Missing.least-more, Sizes.size-append, Sizes.size-some}
 use Rattle.mum_fields.specs.declared.message.MessageFault.TheVariants as faults
-use Rattle.mum_fields.specs.declared.pass.Part.{Part}
-use Rattle.mum_fields.specs.declared.field.Value.{Value as CodeValue}
 use Rattle.mum_fields.specs.declared.field.Value.TheVariants as values
-use Rattle.mum_fields.specs.declared.shape.Scalar.{Scalar}
-use Rattle.mum_fields.specs.declared.shape.FieldShape.{FieldShape}
-use Rattle.mum_fields.specs.declared.shape.Kind.{Kind}
-use Rattle.mum_fields.specs.declared.shape.Kind.TheVariants.{Number, Utf8, Raw}
-use Rattle.mum_fields.specs.declared.shape.Label.{Label}
-use Rattle.mum_fields.specs.declared.shape.Label.TheVariants.{Optional, Required, RequiredOr, Repeated}
-use Rattle.mum_fields.specs.Field.{Entry, Cursor}
-use Rattle.mum_fields.specs.Payload.{Walk, fields, packed}
-use Rattle.mum_fields.specs.Content.{content_of}
-use Rattle.mum_fields.specs.Written.{Item, written, varint_item, block_item, each_number}
-use Rattle.mum_fields.specs.Message.{first_fault, value_fault, newer, or_else, text}
-use Rattle.mum_fields.specs.Table.{Field, value_of, One, Value, Layout, Values, no_values, value_after, values_after, one_in, all_in, scalar_number, one_item, each_item, row_items, each_message, items, rule_of, rules, lesser, least, missing, missing_in, is_set, has_value, whole, gathered, unless_missing, decoded_by}
-use Rattle.mum_fields.specs.Survey.{cut, size, spelled_size, Slot, Single, Many, number_of, label_of, flat, layer, form_of, Held, part_of, held_after, slot_rule, own, later, own_missing, Grows, answered, whole_part, outlined, one_size, all_size}
-use Rattle.mum_fields.proofs.Missing.{least-more}
-use Rattle.mum_fields.proofs.Sizes.{size-append, size-some}
 
 abbrev ok_of : {X Y : Type 0} → X → Result X Y
 ok_of x = Ok x
@@ -137,7 +114,7 @@ shape label kind number = record { label = label; kind = kind; number = number }
 abbrev plain : ℕ → Part
 plain n = record { length = n; missing = None }
 
--- the size behind one more field, where the last counts
+-- the size after one more field, where the last counts
 last-size : (kind : Kind) (number : ℕ) (before : Part) (e : Entry) (given : Option ℕ) (held : Option (One kind)) (found : Option FieldFault) → found ≡ value_fault (rule_of Optional kind) e → e.number ≡ number
     → Ok given ≡ one_size kind number e → before ≡ plain (size (one_item kind number held))
     → Ok (plain (unwrap_or given before.length)) ≡ answered found (plain (size (one_item kind number (newer (one_in kind) number held e))))

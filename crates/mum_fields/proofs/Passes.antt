@@ -1,28 +1,7 @@
 -- The calls of the pass over the fields of a message: what each answers, for rows of any type that have slots.
-use Rattle.std.proofs.Common.{◌≡◌, ◌≢◌, ℕ, zero, suc, ◌+◌, ◌-◌, ◌^◌, ◌<◌, ◌≤◌, ◌&&◌, Bool, true, false, cond, ltb, leb, List, [], ◌∷◌, length, get_or, set, map, min, Option, Some, None, Result, Ok, Err, refl, sym, ap, subst, ◌∙◌, arith}
-use Rattle.std.specs.Prelude.{⊤}
-use Rattle.std.specs.List.{list_all, All, AllByRecursion, HoldsAt}
-use Rattle.std.proofs.lemmas.List.{length-map, nil_from_length}
-use Rattle.std.proofs.lemmas.List.Elements.{All-head, All-tail}
-use Rattle.mum_fields.specs.declared.fault.FieldFault.{FieldFault}
-use Rattle.mum_fields.specs.declared.pass.Part.{Part}
-use Rattle.mum_fields.specs.declared.pass.TheConstants.{SLOTS}
-use Rattle.mum_fields.specs.declared.shape.Label.{Label}
-use Rattle.mum_fields.specs.declared.shape.Label.TheVariants.{Optional, Required, RequiredOr, Repeated}
-use Rattle.mum_fields.specs.Content.{Content, Varint, Fixed8, Block, Fixed4}
-use Rattle.mum_fields.specs.Field.{Entry}
-use Rattle.mum_fields.specs.declared.message.MessageFault.{MessageFault}
+use Rattle.mum_fields.proofs.Common.{◌≡◌, ◌≢◌, ℕ, zero, suc, ◌+◌, ◌-◌, ◌^◌, ◌<◌, ◌≤◌, ◌&&◌, Bool, true, false, cond, ltb, leb, List, [], ◌∷◌, length, get_or, set, map, min, Option, Some, None, Result, Ok, Err, refl, sym, ap, subst, ◌∙◌, arith, ⊤, list_all, All, AllByRecursion, HoldsAt, length-map, nil_from_length, All-head, All-tail, FieldFault, Part, FIELD_LIMIT, Label, Optional, Required, RequiredOr, Repeated, Content, Varint, Fixed8, Block, Fixed4, Entry, MessageFault, Walk, ended, stopped_by, first, any_block, fault_in, value_fault, entry_fault, first_fault, outcome, unless, Layout, Values, no_values, values_after, rules, rising, gathered, is_set, lesser, Slot, number_of, label_of, form_of, is_sound, has_room, Held, part_of, held_after, slot_rule, own, later, AreParts, own_missing, Grows, Takes, whole_part, outlined, leb-true}
+use Rattle.mum_fields.proofs.{Decoding.outcome-next, Decoding.outcome-end, Steps.after-nothing, Steps.after-next, Outlines.answered-fault, Outlines.answered-whole, Outlines.ok-answered, Outlines.err-answered, ReadBack.Rises, ReadBack.rises, ReadBack.first_true, ReadBack.second_true, Kept.rule-others, Kept.parts-others, Kept.found, Kept.sound-at, Kept.set-here, Kept.set-there, Kept.set-missing, Kept.unset_missing, Kept.unset-missing, Kept.whole-more}
 use Rattle.mum_fields.specs.declared.message.MessageFault.TheVariants as faults
-use Rattle.mum_fields.specs.Payload.{Walk, ended, stopped_by, first}
-use Rattle.mum_fields.specs.Message.{any_block, fault_in, value_fault, entry_fault, first_fault, outcome, unless}
-use Rattle.mum_fields.specs.Table.{Layout, Values, no_values, values_after, rules, rising, gathered, is_set, lesser}
-use Rattle.mum_fields.specs.Survey.{Slot, number_of, label_of, form_of, is_sound, has_room, Held, part_of, held_after, slot_rule, own, later, AreParts, own_missing, Grows, Takes, whole_part, outlined}
-use Rattle.mum_fields.proofs.Decoding.{outcome-next, outcome-end}
-use Rattle.mum_fields.proofs.Steps.{after-nothing, after-next}
-use Rattle.std.proofs.lemmas.Bool.{leb-true}
-use Rattle.mum_fields.proofs.Outlines.{answered-fault, answered-whole, ok-answered, err-answered}
-use Rattle.mum_fields.proofs.ReadBack.{Rises, rises, first_true, second_true}
-use Rattle.mum_fields.proofs.Kept.{rule-others, parts-others, found, sound-at, set-here, set-there, set-missing, unset_missing, unset-missing, whole-more}
 
 -- ---- rows and their slots
 
@@ -38,10 +17,10 @@ others-map {S} slot (row ∷ rows) n all =
     ((λ e. All-head other row rows all (sym e)), others-map slot rows n (All-tail other row rows all))
 
 room-sound : (slots : List Slot) → has_room slots ≡ true → list_all is_sound slots ≡ true
-room-sound slots h = first_true (list_all is_sound slots) (rising 0 (form_of slots)) (second_true (leb (length slots) SLOTS) (list_all is_sound slots && rising 0 (form_of slots)) h)
+room-sound slots h = first_true (list_all is_sound slots) (rising 0 (form_of slots)) (second_true (leb (length slots) FIELD_LIMIT) (list_all is_sound slots && rising 0 (form_of slots)) h)
 
 pub room-rises : (slots : List Slot) → has_room slots ≡ true → Rises 0 (form_of slots)
-room-rises slots h = rises 0 (form_of slots) (second_true (list_all is_sound slots) (rising 0 (form_of slots)) (second_true (leb (length slots) SLOTS) (list_all is_sound slots && rising 0 (form_of slots)) h))
+room-rises slots h = rises 0 (form_of slots) (second_true (list_all is_sound slots) (rising 0 (form_of slots)) (second_true (leb (length slots) FIELD_LIMIT) (list_all is_sound slots && rising 0 (form_of slots)) h))
 
 pub row-sound : {S : Type 0} (slot : S → Slot) (rows : List S) (i : ℕ) (row : S) → has_room (map slot rows) ≡ true → i < length rows → row ≡ get_or rows i row → is_sound (slot row) ≡ true
 row-sound slot rows i row room within is =
@@ -178,7 +157,7 @@ missing-unset slot held part f label is none told a b =
 -- ---- the loop over the fields of a payload
 
 pub room-few : (slots : List Slot) → has_room slots ≡ true → length slots ≤ 24
-room-few slots h = leb-true (length slots) SLOTS (first_true (leb (length slots) SLOTS) (list_all is_sound slots && rising 0 (form_of slots)) h)
+room-few slots h = leb-true (length slots) FIELD_LIMIT (first_true (leb (length slots) FIELD_LIMIT) (list_all is_sound slots && rising 0 (form_of slots)) h)
 
 pub outline-more : (form : Layout) (values : Values form) (e : Entry) (w others : Walk Entry) → w ≡ first e others → entry_fault (rules form) e ≡ None
     → outcome (rules form) (values_after form (values_after form values (e ∷ []))) others ≡ outcome (rules form) (values_after form values) w

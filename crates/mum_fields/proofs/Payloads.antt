@@ -1,18 +1,6 @@
 -- The fields of a payload are those of the grammar, and what is written is read.
-use Rattle.std.proofs.Common.{◌≡◌, ℕ, zero, suc, ◌+◌, ◌*◌, ◌<◌, List, [], ◌∷◌, ◌++◌, length, Option, None, Result, Ok, Err, refl, sym, ap, subst, ◌∙◌, arith}
-use Rattle.std.specs.List.{AllByRecursion}
-use Rattle.std.proofs.lemmas.List.{nil_from_length, length-append}
-use Rattle.std.proofs.lemmas.List.Concat.{flat_map-cons}
-use Rattle.std.proofs.lemmas.Nat.{from_le_bytes-to_le_bytes_4, from_le_bytes-to_le_bytes_8}
-use Rattle.mum_fields.specs.declared.fault.FieldFault.{FieldFault}
-use Rattle.mum_fields.specs.Varint.{shortest}
-use Rattle.mum_fields.specs.Content.{Content, Varint, Fixed8, Block, Fixed4}
-use Rattle.mum_fields.specs.Field.{Entry, Cursor, wire_type, IsValue, IsField, varint_in_front, field_at}
-use Rattle.mum_fields.specs.Payload.{AreFields, Walk, ended, stopped_by, first, fields}
-use Rattle.mum_fields.specs.Written.{Item, value_bytes, spelling, written, FitsContent, Fits, skipped, placed_at, placed_from}
-use Rattle.mum_fields.proofs.Spellings.{shortest-is_varint}
-use Rattle.mum_fields.proofs.Fields.{varint_at-found, field_at-found, field_at-there}
-use Rattle.mum_fields.proofs.Walks.{Shortens, walk-end, walk-item, walk-fault}
+use Rattle.mum_fields.proofs.Common.{◌≡◌, ℕ, zero, suc, ◌+◌, ◌*◌, ◌<◌, List, [], ◌∷◌, ◌++◌, length, Option, None, Result, Ok, Err, refl, sym, ap, subst, ◌∙◌, arith, AllByRecursion, nil_from_length, length-append, flat_map-cons, from_le_bytes-to_le_bytes_4, from_le_bytes-to_le_bytes_8, FieldFault, shortest, Content, Varint, Fixed8, Block, Fixed4, Entry, Cursor, wire_type, IsValue, IsField, varint_in_front, field_at, AreFields, Walk, ended, stopped_by, first, fields, Item, value_bytes, spelling, written, FitsContent, Fits, skipped, placed_at, placed_from}
+use Rattle.mum_fields.proofs.{Spellings.shortest-is_varint, Fields.varint_at-found, Fields.field_at-found, Fields.field_at-there, Walks.Shortens, Walks.walk-end, Walks.walk-item, Walks.walk-fault}
 
 pub varint_at-shortens : Shortens varint_in_front
 varint_at-shortens c after n e =
@@ -58,7 +46,7 @@ fields_none c zero len r is h = nil_from_length c.rest len
 fields_none c (suc n) len (Err fault) is h = absurd (stopped_not_whole fault [] (sym (walk-fault field_at c fault (omega arith) is) ∙ h))
 fields_none c (suc n) len (Ok x) is h = absurd (more_not_ended x.0 (fields x.1) (sym (walk-item field_at field_at-shortens c x.1 x.0 is) ∙ h))
 
--- the first of the fields, and what is left behind it
+-- the first of the fields, and what is left after it
 pub record First (c : Cursor) (e : Entry) (es : List Entry) (end : Option FieldFault) : Type 0 where
   pub after : Cursor
   pub step : field_at c ≡ Ok (e, after)

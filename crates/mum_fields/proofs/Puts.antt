@@ -1,13 +1,7 @@
 -- Fields that are written one after the other.
-use Rattle.std.proofs.Common.{◌≡◌, ℕ, ◌+◌, ◌<◌, List, [], ◌∷◌, ◌++◌, length, get_or, take, map, refl, sym, ap, subst, ◌∙◌, append_assoc}
-use Rattle.std.specs.List.{All}
-use Rattle.std.proofs.lemmas.List.{append-nil, map_more}
-use Rattle.std.proofs.lemmas.List.Elements.{All-nil, All-cons, All-append}
-use Rattle.std.proofs.lemmas.List.Concat.{flat_map-append}
-use Rattle.mum_fields.specs.Written.{Item, spelling, written}
-use Rattle.mum_fields.specs.Table.{Table, parts, Layout, Nothing, Field, Blocks, Values, row_items, each_message, items}
+use Rattle.mum_fields.proofs.Common.{◌≡◌, ℕ, ◌+◌, ◌<◌, List, [], ◌∷◌, ◌++◌, length, get_or, take, map, refl, sym, ap, subst, ◌∙◌, append_assoc, All, append-nil, map_more, All-nil, All-cons, All-append, flat_map-append, Item, spelling, written, Table, parts, Layout, Nothing, Field, Blocks, Values, row_items, each_message, items}
 
--- P of what stands there at last, given for each field what stands there once its items are written
+-- P of what is there at last, given for each field what is there once its items are written
 abbrev pub Adding : (form : Layout) → Values form → List ℕ → (List ℕ → Type 0) → Type 0
 Adding Nothing values now P = P now
 Adding (Field label kind number others) values now P = (next : List ℕ) → next ≡ now ++ written (row_items label kind number values.0) → Adding others values.1 next P

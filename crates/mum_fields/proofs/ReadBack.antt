@@ -1,20 +1,7 @@
 -- What is written of a message is read back as the message.
-use Rattle.std.proofs.Common.{◌≡◌, ℕ, ◌+◌, ◌<◌, ◌≤◌, ◌&&◌, eq-eqb, ltb, leb, Bool, true, false, List, [], ◌∷◌, ◌++◌, length, if◌then◌else◌, ◌==◌, None, Result, Ok, Err, refl, sym, ap, ◌∙◌, arith}
-use Rattle.std.specs.List.{AllByRecursion}
-use Rattle.std.proofs.lemmas.Bool.{ne_eqb, ltb-true, leb-true}
-use Rattle.mum_fields.specs.declared.message.MessageFault.{MessageFault}
+use Rattle.mum_fields.proofs.Common.{◌≡◌, ℕ, ◌+◌, ◌<◌, ◌≤◌, ◌&&◌, eq-eqb, ltb, leb, Bool, true, false, List, [], ◌∷◌, ◌++◌, length, if◌then◌else◌, ◌==◌, None, Result, Ok, Err, refl, sym, ap, ◌∙◌, arith, AllByRecursion, ne_eqb, ltb-true, leb-true, MessageFault, Entry, IsNumber, last_number, Walk, fields, Item, spelling, written, FitsContent, Fits, placed_at, placed_from, Rule, fault_in, any_block, first_fault, every, messages_of, message, Kind, Label, Value, Layout, Nothing, Field, Blocks, Values, Table, layout, parts, rising, unset, value_after, no_values, values_after, rule_of, rules, missing, whole, gathered, decoded, ReadsAs, row_items, each_message, items, spelled, IsTyped, AreTyped, AreTypedBlocks}
+use Rattle.mum_fields.proofs.{Payloads.fields-written, Encoding.placed_from-append, Encoding.every-append, Encoding.AreOthers, Encoding.every-others, Rows.IsItem, Rows.row-items, Rows.message-items, Rows.row-back, Rows.messages-back, Rows.value_after-append, Rows.value_after-others}
 use Rattle.mum_fields.specs.declared.message.MessageFault.TheVariants as faults
-use Rattle.mum_fields.specs.Field.{Entry, IsNumber, last_number}
-use Rattle.mum_fields.specs.Payload.{Walk, fields}
-use Rattle.mum_fields.specs.Written.{Item, spelling, written, FitsContent, Fits, placed_at, placed_from}
-use Rattle.mum_fields.specs.Message.{Rule, fault_in, any_block, first_fault, every, messages_of, message}
-use Rattle.mum_fields.specs.declared.shape.Kind.{Kind}
-use Rattle.mum_fields.specs.declared.shape.Label.{Label}
-use Rattle.mum_fields.specs.Table.{Value, Layout, Nothing, Field, Blocks, Values, Table, layout, parts, rising, unset, value_after, no_values, values_after, rule_of, rules, missing, whole, gathered, decoded, ReadsAs, row_items, each_message, items, spelled}
-use Rattle.mum_fields.specs.Typed.{IsTyped, AreTyped, AreTypedBlocks}
-use Rattle.mum_fields.proofs.Payloads.{fields-written}
-use Rattle.mum_fields.proofs.Encoding.{placed_from-append, every-append, AreOthers, every-others}
-use Rattle.mum_fields.proofs.Rows.{IsItem, row-items, message-items, row-back, messages-back, value_after-append, value_after-others}
 
 -- ---- lists
 

@@ -1,21 +1,6 @@
 -- The items of one field of a message: they keep the field's rule, and give its value back.
-use Rattle.std.proofs.Common.{◌≡◌, ℕ, ◌+◌, eq-eqb, List, [], ◌∷◌, ◌++◌, length, Option, Some, None, IfSome, refl, sym, ap, ◌∙◌, append_assoc}
-use Rattle.std.specs.List.{All, AllByRecursion}
-use Rattle.std.proofs.lemmas.List.{append-nil}
-use Rattle.std.proofs.lemmas.List.Elements.{All-head, All-tail}
-use Rattle.mum_fields.specs.Field.{Entry}
-use Rattle.mum_fields.specs.Payload.{fields}
-use Rattle.mum_fields.specs.Written.{Item, varint_item, block_item, spelling, written, FitsContent, placed_at, placed_from, each_number, each_block}
-use Rattle.mum_fields.specs.Message.{Rule, text, any_block, fault_in, every, numbers_of, messages_of}
-use Rattle.mum_fields.proofs.Texts.{text-read}
-use Rattle.mum_fields.proofs.Encoding.{last-append, every-append, AreOthers, last-others, every-others, every-take, last-block_items, every-each_block}
-use Rattle.mum_fields.specs.declared.shape.Kind.{Kind}
-use Rattle.mum_fields.specs.declared.shape.Kind.TheVariants.{Number, Utf8, Raw}
-use Rattle.mum_fields.specs.declared.shape.Label.{Label}
-use Rattle.mum_fields.specs.declared.shape.Label.TheVariants.{Optional, Required, RequiredOr, Repeated}
-use Rattle.mum_fields.specs.declared.shape.Scalar.{Scalar}
-use Rattle.mum_fields.specs.Table.{Scalar_of, One, Value, value_of, scalar_number, one_in, all_in, unset, value_after, rule_of, one_item, row_items, each_message}
-use Rattle.mum_fields.specs.Typed.{IsOne, IsText, IsBytes, IsTyped}
+use Rattle.mum_fields.proofs.Common.{◌≡◌, ℕ, ◌+◌, eq-eqb, List, [], ◌∷◌, ◌++◌, length, Option, Some, None, IfSome, refl, sym, ap, ◌∙◌, append_assoc, All, AllByRecursion, append-nil, All-head, All-tail, Entry, fields, Item, varint_item, block_item, spelling, written, FitsContent, placed_at, placed_from, each_number, each_block, Rule, text, any_block, fault_in, every, numbers_of, messages_of, Kind, Number, Utf8, Raw, Label, Optional, Required, RequiredOr, Repeated, Scalar, Scalar_of, One, Value, value_of, scalar_number, one_in, all_in, unset, value_after, rule_of, one_item, row_items, each_message, IsOne, IsText, IsBytes, IsTyped}
+use Rattle.mum_fields.proofs.{Texts.text-read, Encoding.last-append, Encoding.every-append, Encoding.AreOthers, Encoding.last-others, Encoding.every-others, Encoding.every-take, Encoding.last-block_items, Encoding.every-each_block}
 
 pub record IsItem (number : ℕ) (rule : Rule) (item : Item) : Type 0 where
   pub is : item.number ≡ number
@@ -112,7 +97,7 @@ messages-back {X} make inside P back number (x ∷ xs) before place h =
     let taken : before ++ messages_of make entry ≡ before ++ x ∷ [] = rw (back x entry.place (All-head P_block x xs h).0) refl in
     every-take (messages_of make) number before entry left refl ∙ ap (λ b. every (messages_of make) number b left) taken ∙ others ∙ append_assoc before (x ∷ []) xs
 
--- ---- items behind others, and items of other numbers
+-- ---- items after others, and items of other numbers
 
 pub value_after-append : (label : Label) (kind : Kind) (number : ℕ) (before : Value label kind) (es fs : List Entry)
     → value_after label kind number before (es ++ fs) ≡ value_after label kind number (value_after label kind number before es) fs

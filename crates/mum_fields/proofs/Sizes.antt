@@ -1,13 +1,5 @@
--- How long spellings are, as far as 64 bits tell it.
-use Rattle.std.proofs.Common.{◌≡◌, ℕ, zero, suc, ◌+◌, ◌-◌, ◌*◌, ◌/◌, ◌%◌, ◌^◌, ◌<◌, ◌≤◌, Bool, true, false, cond, ltb, List, [], ◌∷◌, ◌++◌, get_or, length, map, min, take, refl, sym, ap, ◌∙◌, arith}
-use Rattle.std.proofs.lemmas.Bool.{ltb-true, ltb-false}
-use Rattle.std.proofs.lemmas.List.{length-append, map-append, map_more}
-use Rattle.std.proofs.lemmas.List.Concat.{flat_map-append}
-use Rattle.mum_fields.specs.Field.{wire_type}
-use Rattle.mum_fields.specs.Varint.{shortest_with, shortest}
-use Rattle.mum_fields.specs.Written.{Item, spelling, written, value_bytes, varint_item, block_item}
-use Rattle.mum_fields.specs.Survey.{cut, size}
-use Rattle.mum_fields.specs.Table.{Layout, Nothing, Field, Blocks, Values, row_items, each_message, items}
+-- How long encodings are, as far as 64 bits count it.
+use Rattle.mum_fields.proofs.Common.{◌≡◌, ℕ, zero, suc, ◌+◌, ◌-◌, ◌*◌, ◌/◌, ◌%◌, ◌^◌, ◌<◌, ◌≤◌, Bool, true, false, cond, ltb, List, [], ◌∷◌, ◌++◌, get_or, length, map, min, take, refl, sym, ap, ◌∙◌, arith, ltb-true, ltb-false, length-append, map-append, map_more, flat_map-append, wire_type, shortest_with, shortest, Item, spelling, written, value_bytes, varint_item, block_item, cut, size, Layout, Nothing, Field, Blocks, Values, row_items, each_message, items}
 use Rattle.mum_fields.proofs.Spellings.{Rest, shortest_with-last}
 
 -- ---- lengths of spellings
@@ -111,7 +103,7 @@ size-more-values view item xs i x start total one more within is before own adds
     let items = ap (λ ys. map item ys) next ∙ map-append item (map view (take i xs)) (view x ∷ []) in
     size-next (map item (map view (take i xs))) (map item (map view (take (i + 1) xs))) (item (view x)) start total one more items before own adds
 
--- P of the length at last, given for each field the length behind it
+-- P of the length at last, given for each field the length after it
 abbrev pub Counting : (form : Layout) → Values form → ℕ → (ℕ → Type 0) → Type 0
 Counting Nothing values now P = P now
 Counting (Field label kind number others) values now P = (next : ℕ) → next ≡ cut (now + size (row_items label kind number values.0)) → Counting others values.1 next P

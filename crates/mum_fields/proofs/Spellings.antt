@@ -1,10 +1,5 @@
 -- Spellings of a number: what is read is one, one is read whatever follows, and the shortest is one.
-use Rattle.std.proofs.Common.{◌≡◌, ℕ, zero, suc, ◌+◌, ◌-◌, ◌*◌, ◌/◌, ◌%◌, ◌^◌, ◌<◌, ◌≤◌, Bool, true, false, cond, ltb, List, [], ◌∷◌, ◌++◌, length, take, Result, Ok, Err, refl, sym, ap, subst, ◌∙◌, arith, append_assoc, add-one}
-use Rattle.std.proofs.lemmas.Bool.{le-ltb, lt-ltb, ltb-true, ltb-false}
-use Rattle.std.proofs.lemmas.Grind.{pow_more}
-use Rattle.mum_fields.specs.declared.fault.FaultKind.{FaultKind}
-use Rattle.mum_fields.specs.declared.fault.FaultKind.TheVariants.{BadVarint}
-use Rattle.mum_fields.specs.Varint.{SpellsWithin, IsVarint, above, varint_with, varint, shortest_with, shortest, AreOctets}
+use Rattle.mum_fields.proofs.Common.{◌≡◌, ℕ, zero, suc, ◌+◌, ◌-◌, ◌*◌, ◌/◌, ◌%◌, ◌^◌, ◌<◌, ◌≤◌, Bool, true, false, cond, ltb, List, [], ◌∷◌, ◌++◌, length, take, Result, Ok, Err, refl, sym, ap, subst, ◌∙◌, arith, append_assoc, add-one, le-ltb, lt-ltb, ltb-true, ltb-false, pow_more, FaultKind, BadVarint, SpellsWithin, IsVarint, above, varint_with, varint, shortest_with, shortest, AreOctets}
 
 abbrev Found : Type 0
 Found = Result (ℕ × ℕ) FaultKind
@@ -12,7 +7,7 @@ Found = Result (ℕ × ℕ) FaultKind
 abbrev done : ℕ → ℕ → Found
 done n used = Ok (n, used)
 
--- a number that is spelled at the front is read, whatever follows
+-- a number that is encoded at the front is read, whatever follows
 pub varint_with-spelled : (more : ℕ) (bytes rest : List ℕ) (n : ℕ) → SpellsWithin more bytes n → varint_with more (bytes ++ rest) ≡ done n (length bytes)
 varint_with-spelled more [] rest n h = absurd h
 varint_with-spelled zero (b ∷ []) rest n h = rw (le-ltb 1 b h.0, h.1) refl
@@ -45,7 +40,7 @@ pair-1 : {a b c d : ℕ} → done a b ≡ done c d → b ≡ d
 unfolding used_of
 pair-1 e = ap used_of e
 
--- what is read is spelled so
+-- what is read is encoded so
 found_at_zero : (b : ℕ) (bs : List ℕ) (n used : ℕ) (test : Bool) → ltb 1 b ≡ test → cond test (Err BadVarint) (done b 1) ≡ done n used → IsFound zero (b ∷ bs) n used
 found_at_zero b bs n used true is e = absurd cc
 found_at_zero b bs n used false is e =
@@ -84,7 +79,7 @@ pub shortest_with-last : (more n : ℕ) → n < 128 → shortest_with more n ≡
 shortest_with-last zero n h = refl
 shortest_with-last (suc more) n h = rw lt-ltb refl
 
--- one byte of the shortest spelling is written, and the rest is still to be written
+-- one byte of the shortest encoding is written, and the rest is still to be written
 pub record Rest (n : ℕ) (out total : List ℕ) : Type 0 where
   pub more : ℕ
   pub below : n < 2 * 128 ^ more
@@ -104,7 +99,7 @@ pub Rest-whole : (n : ℕ) (out : List ℕ) → n < 2 ^ 64 → Rest n out (out +
 unfolding shortest
 Rest-whole n out below = record { more = 9; below = below; whole = refl }
 
--- the shortest spelling is a spelling
+-- the shortest encoding is an encoding
 pub shortest_with-spells : (more n : ℕ) → n < 2 * 128 ^ more → SpellsWithin more (shortest_with more n) n
 shortest_with-spells zero n below = (omega arith, refl)
 shortest_with-spells (suc more) n below = by_test (ltb n 128) refl (shortest_with-spells more (n / 128))
@@ -120,7 +115,7 @@ pub shortest-is_varint : (n : ℕ) → n < 2 ^ 64 → IsVarint (shortest n) n
 unfolding IsVarint shortest
 shortest-is_varint n below = shortest_with-spells 9 n below
 
--- and no spelling has fewer bytes
+-- and no encoding has fewer bytes
 shortest_with-least : (more n : ℕ) (bytes : List ℕ) → AreOctets bytes → SpellsWithin more bytes n → length (shortest_with more n) ≤ length bytes
 shortest_with-least more n [] fit h = absurd h
 shortest_with-least zero n (b ∷ bs) fit h = omega arith

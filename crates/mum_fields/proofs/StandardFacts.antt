@@ -1,19 +1,7 @@
 -- Worked fields, after Protocol Buffers, "Encoding", so that a wrong rule in the specs does not check.
-use Prim.Native.String.{String}
-use Rattle.std.proofs.Common.{◌≡◌, ℕ, ◌-◌, ◌^◌, true, false, List, [], ◌∷◌, codes, pos, negsuc, Option, Some, None}
-use Rattle.mum_base.proofs.Hex.{hex}
-use Rattle.mum_fields.specs.declared.fault.FieldFault.{FieldFault}
-use Rattle.mum_fields.specs.declared.fault.FaultKind.TheVariants.{Truncated, BadWireType, BadVarint, BadText, BadLength}
-use Rattle.mum_fields.specs.declared.message.MessageFault.TheVariants as why
-use Rattle.mum_fields.specs.declared.shape.Scalar.TheVariants.{Unsigned32, Unsigned64, Signed32, Truth}
-use Rattle.mum_fields.specs.Fault.{kind_code}
-use Rattle.mum_fields.specs.Content.{Content, Varint, Fixed8, Block, Fixed4}
-use Rattle.mum_fields.specs.Field.{Entry}
-use Rattle.mum_fields.specs.Payload.{Walk, at_start, fields, packed}
-use Rattle.mum_fields.specs.Message.{text, message_code}
-use Rattle.mum_fields.specs.Written.{varint_item, block_item, written}
-use Rattle.mum_fields.specs.Table.{value_of, scalar_number}
+use Rattle.mum_fields.proofs.Common.{String, ◌≡◌, ℕ, ◌-◌, ◌^◌, true, false, List, [], ◌∷◌, codes, pos, negsuc, Option, Some, None, hex, FieldFault, Truncated, BadWireType, BadVarint, BadText, BadLength, Unsigned32, Unsigned64, Signed32, Truth, kind_code, Content, Varint, Fixed8, Block, Fixed4, Entry, Walk, at_start, fields, packed, text, message_code, varint_item, block_item, written, value_of, scalar_number}
 use Rattle.mum_fields.proofs.Worked.{messages}
+use Rattle.mum_fields.specs.declared.message.MessageFault.TheVariants as why
 
 -- the fields of a payload
 abbrev read : String → Walk Entry

@@ -1,10 +1,5 @@
 -- Values field by field: for the loop of decoders.
-use Rattle.std.proofs.Common.{◌≡◌, ℕ, List, [], ◌∷◌, refl}
-use Rattle.mum_fields.specs.Field.{Entry}
-use Rattle.mum_fields.specs.declared.shape.Kind.{Kind}
-use Rattle.mum_fields.specs.declared.shape.Label.{Label}
-use Rattle.mum_fields.specs.declared.shape.Label.TheVariants.{Optional, Required, RequiredOr, Repeated}
-use Rattle.mum_fields.specs.Table.{Value, Layout, Nothing, Field, Blocks, Values, value_after, values_after}
+use Rattle.mum_fields.proofs.Common.{◌≡◌, ℕ, List, [], ◌∷◌, refl, Entry, Kind, Label, Optional, Required, RequiredOr, Repeated, Value, Layout, Nothing, Field, Blocks, Values, value_after, values_after}
 
 value_after-nothing : (label : Label) (kind : Kind) (number : ℕ) (before : Value label kind) → value_after label kind number before [] ≡ before
 value_after-nothing Optional kind number before = refl

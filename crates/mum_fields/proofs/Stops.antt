@@ -1,17 +1,8 @@
 -- A walk over fields stops at the first fault of the relation.
-use Rattle.std.proofs.Common.{◌≡◌, ◌↔◌, ℕ, zero, suc, ◌+◌, ◌<◌, List, [], ◌∷◌, length, Option, Some, Result, Ok, Err, refl, sym, ap, subst, ◌∙◌, arith}
-use Rattle.std.proofs.lemmas.List.{nil_from_length, length-append}
-use Rattle.mum_fields.specs.declared.fault.FieldFault.{FieldFault}
-use Rattle.mum_fields.specs.Varint.{IsVarint, SpellsWithin}
-use Rattle.mum_fields.specs.Field.{Entry, Cursor, field_at}
-use Rattle.mum_fields.specs.Payload.{Walk, ended, stopped_by, first, fields}
-use Rattle.mum_fields.specs.NoField.{BeginsWithVarint, HasFieldFault, no_key, no_number, no_wire_type, no_varint, cut_fixed8, no_length, long_block, cut_fixed4, StopsAt}
-use Rattle.mum_fields.proofs.Fields.{field_at-found, field_at-there}
-use Rattle.mum_fields.proofs.Walks.{walk-end, walk-item, walk-fault}
-use Rattle.mum_fields.proofs.Payloads.{field_at-shortens, fields_first}
-use Rattle.mum_fields.proofs.NoFields.{fault-there, there-fault}
+use Rattle.mum_fields.proofs.Common.{◌≡◌, ◌↔◌, ℕ, zero, suc, ◌+◌, ◌<◌, List, [], ◌∷◌, length, Option, Some, Result, Ok, Err, refl, sym, ap, subst, ◌∙◌, arith, nil_from_length, length-append, FieldFault, IsVarint, SpellsWithin, Entry, Cursor, field_at, Walk, ended, stopped_by, first, fields, BeginsWithVarint, HasFieldFault, no_key, no_number, no_wire_type, no_varint, cut_fixed8, no_length, long_block, cut_fixed4, StopsAt}
+use Rattle.mum_fields.proofs.{Fields.field_at-found, Fields.field_at-there, Walks.walk-end, Walks.walk-item, Walks.walk-fault, Payloads.field_at-shortens, Payloads.fields_first, NoFields.fault-there, NoFields.there-fault}
 
--- ---- a fault stands before the end
+-- ---- a fault comes before the end
 
 spelled-some : (more : ℕ) (bytes : List ℕ) (n : ℕ) → SpellsWithin more bytes n → 0 < length bytes
 spelled-some more [] n h = absurd h

@@ -1,8 +1,5 @@
 -- What the parts of fields sum up to, from the first on.
-use Rattle.std.proofs.Common.{◌≡◌, ℕ, suc, ◌+◌, ◌-◌, ◌^◌, ◌<◌, ◌≤◌, Bool, true, false, is_some, List, ◌∷◌, length, length-drop, get_or, drop, take, take_all, map, min, Option, Some, None, refl, sym, ap, subst, ◌∙◌, arith, drop-cons, add-one}
-use Rattle.mum_fields.specs.declared.pass.Part.{Part}
-use Rattle.mum_fields.specs.Table.{Values, is_set, lesser}
-use Rattle.mum_fields.specs.Survey.{Slot, form_of, Held, part_of, AreParts, own_missing}
+use Rattle.mum_fields.proofs.Common.{◌≡◌, ℕ, suc, ◌+◌, ◌-◌, ◌^◌, ◌<◌, ◌≤◌, Bool, true, false, is_some, List, ◌∷◌, length, length-drop, get_or, drop, take, take_all, map, min, Option, Some, None, refl, sym, ap, subst, ◌∙◌, arith, drop-cons, add-one, Part, Values, is_set, lesser, Slot, form_of, Held, part_of, AreParts, own_missing}
 use Rattle.mum_fields.proofs.Passes.{SumsUp, sums-nothing, sums-more, sums-in}
 
 abbrev pub a_part : ℕ → Option ℕ → Part
@@ -64,7 +61,7 @@ pub adds-none : {S : Type 0} (slot : S → Slot) (rows : List S) (parts : List P
 unfolding Adds
 adds-none slot rows parts = λ rest few h. subst (SumsUp slot rows parts) (sym (nothing-more 0 rest (omega arith) few)) h
 
--- what one more field comes to with those behind it
+-- what one more field comes to with those after it
 one-more : {S : Type 0} (slot : S → Slot) (rows : List S) (parts : List Part) (i : ℕ) (row : S) (d rest : Part) (own_part : Option ℕ) → i < length rows → i < length parts → row ≡ get_or rows i row
     → ((held : Held (slot row)) → get_or parts i d ≡ part_of (slot row) held → (values : Values (form_of (map slot (drop (i + 1) rows)))) → AreParts (map slot (drop (i + 1) rows)) values (drop (i + 1) parts)
     → own_part ≡ own_missing (slot row) held (is_set (form_of (map slot (drop (i + 1) rows))) values))
@@ -113,7 +110,7 @@ adds-all slot rows parts i sum all few adds =
 take-behind : {X : Type 0} (xs : List X) (n : ℕ) → take (length xs - n) (drop n xs) ≡ drop n xs
 take-behind xs n = take_all (length xs - n) (drop n xs) (omega (arith, length-drop n xs))
 
--- the same as `adds-one`, where the fields behind are taken to the end
+-- the same as `adds-one`, where the fields after are taken to the end
 pub adds-next : {S : Type 0} (slot : S → Slot) (rows : List S) (parts : List Part) (i : ℕ) (row : S) (d sum : Part) (own_part : Option ℕ) → i < length rows → i < length parts → row ≡ get_or rows i row
     → ((held : Held (slot row)) → get_or parts i d ≡ part_of (slot row) held → (values : Values (form_of (map slot (take (length rows - (i + 1)) (drop (i + 1) rows)))))
     → AreParts (map slot (take (length rows - (i + 1)) (drop (i + 1) rows))) values (take (length parts - (i + 1)) (drop (i + 1) parts))

@@ -1,12 +1,6 @@
 -- What one call of a cursor takes of a walk.
-use Rattle.std.proofs.Common.{◌≡◌, ℕ, ◌<◌, List, [], ◌∷◌, length, Ok, Err, refl, sym, ap, arith, eqb, true, false}
-use Rattle.std.proofs.lemmas.Bool.{eqb-true, eqb-false}
-use Rattle.std.proofs.lemmas.List.{nil_from_length}
-use Rattle.mum_fields.specs.declared.fault.FieldFault.{FieldFault}
-use Rattle.mum_fields.specs.Field.{Cursor, Entry, varint_in_front, field_at}
-use Rattle.mum_fields.specs.Payload.{ended, stopped_by, first, fields, packed}
-use Rattle.mum_fields.proofs.Walks.{walk-end, walk-item, walk-fault}
-use Rattle.mum_fields.proofs.Payloads.{varint_at-shortens, field_at-shortens}
+use Rattle.mum_fields.proofs.Common.{◌≡◌, ℕ, ◌<◌, List, [], ◌∷◌, length, Ok, Err, refl, sym, ap, arith, eqb, true, false, eqb-true, eqb-false, nil_from_length, FieldFault, Cursor, Entry, varint_in_front, field_at, ended, stopped_by, first, fields, packed}
+use Rattle.mum_fields.proofs.{Walks.walk-end, Walks.walk-item, Walks.walk-fault, Payloads.varint_at-shortens, Payloads.field_at-shortens}
 
 pub tested_empty : (xs : List ℕ) → true ≡ eqb (length xs) 0 → xs ≡ []
 tested_empty xs e = nil_from_length xs (eqb-true (length xs) 0 (sym e))

@@ -1,9 +1,5 @@
 -- When there is no varint at the front, and why.
-use Rattle.std.proofs.Common.{◌≡◌, ℕ, zero, suc, ◌-◌, ◌<◌, ◌≤◌, Bool, true, false, cond, ltb, List, [], ◌∷◌, length, Result, Ok, Err, refl, arith}
-use Rattle.std.proofs.lemmas.Bool.{le-ltb, lt-ltb, ltb-true, ltb-false}
-use Rattle.mum_fields.specs.declared.fault.FaultKind.{FaultKind}
-use Rattle.mum_fields.specs.declared.fault.FaultKind.TheVariants.{Truncated, BadVarint}
-use Rattle.mum_fields.specs.Varint.{above, varint_with, varint, HaveTops, PassesTen}
+use Rattle.mum_fields.proofs.Common.{◌≡◌, ℕ, zero, suc, ◌-◌, ◌<◌, ◌≤◌, Bool, true, false, cond, ltb, List, [], ◌∷◌, length, Result, Ok, Err, refl, arith, le-ltb, lt-ltb, ltb-true, ltb-false, FaultKind, Truncated, BadVarint, above, varint_with, varint, HaveTops, PassesTen}
 
 abbrev Found : Type 0
 Found = Result (ℕ × ℕ) FaultKind

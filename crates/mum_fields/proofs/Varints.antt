@@ -1,13 +1,7 @@
 -- Reading a varint byte by byte.
-use Rattle.std.proofs.Common.{◌≡◌, ℕ, suc, ◌+◌, ◌-◌, ◌*◌, ◌<◌, ◌≤◌, List, [], ◌∷◌, length, drop, get_or, Option, Some, None, Result, Ok, Err, refl, ap, ◌∙◌, arith, drop-cons, add-one}
-use Rattle.std.proofs.lemmas.Bool.{le-ltb, lt-ltb}
-use Rattle.std.specs.Prelude.{slice_get}
-use Rattle.mum_fields.specs.declared.fault.FaultKind.{FaultKind}
-use Rattle.mum_fields.specs.declared.fault.FieldFault.{FieldFault}
-use Rattle.mum_fields.specs.Field.{Cursor, skip, varint_in_front}
-use Rattle.mum_fields.specs.Varint.{above, varint_with, varint}
+use Rattle.mum_fields.proofs.Common.{◌≡◌, ℕ, suc, ◌+◌, ◌-◌, ◌*◌, ◌<◌, ◌≤◌, List, [], ◌∷◌, length, drop, get_or, Option, Some, None, Result, Ok, Err, refl, ap, ◌∙◌, arith, drop-cons, add-one, le-ltb, lt-ltb, slice_get, FaultKind, FieldFault, Cursor, skip, varint_in_front, above, varint_with, varint}
 
--- the bits that were read before, and what is read behind them
+-- the bits that were read before, and what is read after them
 abbrev pub behind : ℕ → ℕ → ℕ → Result (ℕ × ℕ) FaultKind → Result (ℕ × ℕ) FaultKind
 behind number scale index (Ok x) = Ok (number + x.0 * scale, index + x.1)
 behind number scale index (Err kind) = Err kind

@@ -1,11 +1,5 @@
 -- Walks, step by step.
-use Rattle.std.proofs.Common.{◌≡◌, ℕ, zero, suc, ◌<◌, ◌≤◌, false, cond, eqb, eq-eqb, List, [], ◌++◌, length, take, Result, Ok, Err, refl, sym, ap, ◌∙◌, append_assoc, arith}
-use Rattle.std.proofs.lemmas.List.{append_cancel_left}
-use Rattle.std.proofs.Math.Seq.{take-append_seam}
-use Rattle.std.proofs.lemmas.Bool.{ne_eqb}
-use Rattle.mum_fields.specs.declared.fault.FieldFault.{FieldFault}
-use Rattle.mum_fields.specs.Field.{Cursor}
-use Rattle.mum_fields.specs.Payload.{Walk, ended, stopped_by, first, walk_more, walk_with, walk}
+use Rattle.mum_fields.proofs.Common.{◌≡◌, ℕ, zero, suc, ◌<◌, ◌≤◌, false, cond, eqb, eq-eqb, List, [], ◌++◌, length, take, Result, Ok, Err, refl, sym, ap, ◌∙◌, append_assoc, arith, append_cancel_left, take-append_seam, ne_eqb, FieldFault, Cursor, Walk, ended, stopped_by, first, walk_more, walk_with, walk}
 
 -- each step takes a byte or more
 abbrev pub Shortens : {X : Type 0} → (Cursor → Result (X × Cursor) FieldFault) → Type 0

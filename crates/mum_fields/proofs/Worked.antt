@@ -1,14 +1,6 @@
 -- What the worked facts of messages say.
-use Rattle.std.specs.Prelude.{◌≡◌, ℕ, List, length, Result, Ok, Err, ⊤}
-use Rattle.mum_fields.specs.declared.message.MessageFault.{MessageFault}
-use Rattle.mum_fields.specs.declared.message.MessageFault.TheVariants.{Field, MissingField}
-use lib.Utf8.{encode}
-use Rattle.std.specs.Str.{chars, is_utf8}
-use Rattle.mum_fields.specs.Varint.{varint, shortest}
-use Rattle.mum_fields.specs.Field.{varint_in_front, bytes_at, fixed8_at, fixed4_at, value_at, field_at}
-use Rattle.mum_fields.specs.Payload.{walk}
-use Rattle.mum_fields.specs.Table.{Table, parts, decoded, spelled}
-use Rattle.mum_fields.specs.Survey.{surveyed}
+use Rattle.mum_fields.proofs.Common.{◌≡◌, ℕ, List, length, Result, Ok, Err, ⊤, MessageFault, MissingField, encode, chars, is_utf8, varint, shortest, varint_in_front, bytes_at, fixed8_at, fixed4_at, value_at, field_at, walk, Table, parts, decoded, spelled, surveyed}
+use Rattle.mum_fields.specs.declared.message.MessageFault.TheVariants.{Field}
 
 -- what a fact computes with that is decoded or written: a line `unfolding messages` opens all of these
 unfoldable pub messages : Type 0

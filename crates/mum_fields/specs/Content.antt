@@ -16,7 +16,7 @@ content_of (values.Fixed8 n) = Fixed8 n
 content_of (values.Block block) = Block block.now
 content_of (values.Fixed4 n) = Fixed4 n
 
--- how many bytes of a block behind its length
+-- how many bytes of a block after its length
 abbrev pub block_size : Content → ℕ
 block_size (Varint n) = 0
 block_size (Fixed8 n) = 0

@@ -1,7 +1,6 @@
 -- A cursor of the code as contracts see it.
 use Rattle.std.specs.Prelude.{◌≡◌, Result, Ok, Err}
-use Rattle.mum_fields.specs.declared.fault.FieldFault.{FieldFault}
-use Rattle.mum_fields.specs.declared.cursor.Cursor.{Cursor as CodeCursor}
+use Rattle.mum_fields.specs.declared.{fault.FieldFault.FieldFault, cursor.Cursor.Cursor as CodeCursor}
 use Rattle.mum_fields.specs.Field.{Cursor}
 
 abbrev pub cursor_of : CodeCursor → Cursor

@@ -1,8 +1,7 @@
 -- The numbers of faults.
 use Rattle.std.specs.Prelude.{ℕ}
-use Rattle.mum_fields.specs.declared.fault.FaultKind.{FaultKind}
+use Rattle.mum_fields.specs.declared.fault.{FaultKind.FaultKind, FieldFault.FieldFault}
 use Rattle.mum_fields.specs.declared.fault.FaultKind.TheVariants.{Truncated, BadWireType, BadVarint, BadText, BadLength}
-use Rattle.mum_fields.specs.declared.fault.FieldFault.{FieldFault}
 
 abbrev pub kind_code : FaultKind → ℕ
 kind_code Truncated = 11

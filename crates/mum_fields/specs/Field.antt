@@ -3,11 +3,9 @@ use Rattle.std.specs.Prelude.{◌≡◌, ℕ, ◌+◌, ◌-◌, ◌*◌, ◌/◌
 use Rattle.std.specs.Int.{w32, w64, from_le_bytes}
 use Rattle.mum_fields.specs.declared.fault.FaultKind.{FaultKind}
 use Rattle.mum_fields.specs.declared.fault.FaultKind.TheVariants.{Truncated, BadWireType, BadLength}
-use Rattle.mum_fields.specs.declared.fault.FieldFault.{FieldFault}
-use Rattle.mum_fields.specs.declared.field.Placed.{Placed}
-use Rattle.mum_fields.specs.Fault.{fault}
+use Rattle.mum_fields.specs.declared.{fault.FieldFault.FieldFault, field.Placed.Placed}
+use Rattle.mum_fields.specs.{Fault.fault, Varint.IsVarint, Varint.varint}
 use Rattle.mum_fields.specs.Content.{Content, Varint, Fixed8, Block, Fixed4, content_of}
-use Rattle.mum_fields.specs.Varint.{IsVarint, varint}
 
 -- a field, and the place in the payload where its number or its block begins
 pub record Entry : Type 0 where
@@ -41,11 +39,12 @@ last_number = 2 ^ 29 - 1
 abbrev pub IsNumber : ℕ → Type 0
 IsNumber number = (1 ≤ number) × (number ≤ last_number)
 
--- these bytes are the value, and what it is begins `skipped` bytes behind their first
+-- these bytes are the value, and what it is begins `skipped` bytes after their first
 abbrev pub IsValue : Content → List ℕ → ℕ → Type 0
 IsValue (Varint n) bytes skipped = IsVarint bytes n × (skipped ≡ 0)
 IsValue (Fixed8 n) bytes skipped = (length bytes ≡ 8) × (n ≡ from_le_bytes w64 bytes) × (skipped ≡ 0)
-IsValue (Block block) bytes skipped = (size : List ℕ) × IsVarint size (length block) × (bytes ≡ size ++ block) × (skipped ≡ length size)
+IsValue (Block block) bytes skipped =
+    (size : List ℕ) × IsVarint size (length block) × (bytes ≡ size ++ block) × (skipped ≡ length size)
 IsValue (Fixed4 n) bytes skipped = (length bytes ≡ 4) × (n ≡ from_le_bytes w32 bytes) × (skipped ≡ 0)
 
 -- these bytes are a field whose first byte is at the place: a key, which is the number times 8 plus the
@@ -74,7 +73,7 @@ number_from c (Err kind) = Err (fault kind c.place)
 unfoldable pub varint_in_front : Cursor → Result (ℕ × Cursor) FieldFault
 varint_in_front c = number_from c (varint c.rest)
 
--- so many bytes, where they are left
+-- n bytes, where they are left
 unfoldable pub bytes_at : FaultKind → ℕ → Cursor → Result (List ℕ × Cursor) FieldFault
 bytes_at missing n c = if nat_lt (length c.rest) n then Err (fault missing c.place) else Ok (take n c.rest, skip n c)
 
@@ -91,12 +90,14 @@ fixed4_at c = do
 abbrev pub placed : ℕ → ℕ → Content × Cursor → Entry × Cursor
 placed number place found = (record { number = number; content = found.0; place = place }, found.1)
 
--- the value behind a key that has this place, number and wire type
+-- the value after a key that has this place, number and wire type
 unfoldable pub value_at : ℕ → ℕ → ℕ → Cursor → Result (Entry × Cursor) FieldFault
 value_at key number wire c =
     if wire == 0 then (varint_in_front c >>= λ found. Ok (placed number c.place (Varint found.0, found.1)))
     else if wire == 1 then (fixed8_at c >>= λ found. Ok (placed number c.place (Fixed8 found.0, found.1)))
-    else if wire == 2 then (varint_in_front c >>= λ size. bytes_at BadLength size.0 size.1 >>= λ found. Ok (placed number size.1.place (Block found.0, found.1)))
+    else if wire
+    == 2 then (varint_in_front c >>= λ size. bytes_at BadLength size.0 size.1 >>= λ found. Ok
+    (placed number size.1.place (Block found.0, found.1)))
     else if wire == 5 then (fixed4_at c >>= λ found. Ok (placed number c.place (Fixed4 found.0, found.1)))
     else Err (fault BadWireType key)
 

@@ -2,14 +2,11 @@
 -- came before: so "what is there so far, and then the rest" is the same as all at once.
 use Rattle.std.specs.Prelude.{◌≡◌, ℕ, take, ◌==◌, List, [], ◌∷◌, ◌++◌, map, Option, Some, None, Result, Ok, Err, IsOk, if◌then◌else◌}
 use Rattle.std.specs.Str.{is_utf8}
-use Rattle.mum_fields.specs.declared.fault.FaultKind.TheVariants.{BadText}
-use Rattle.mum_fields.specs.declared.fault.FieldFault.{FieldFault}
+use Rattle.mum_fields.specs.declared.fault.{FaultKind.TheVariants.BadText, FieldFault.FieldFault}
 use Rattle.mum_fields.specs.declared.message.MessageFault.{MessageFault}
 use Rattle.mum_fields.specs.declared.message.MessageFault.TheVariants.{Field, MissingField, OutOfMemory}
-use Rattle.mum_fields.specs.Fault.{fault}
+use Rattle.mum_fields.specs.{Fault.fault, Field.Entry, Payload.Walk, Payload.fields, Payload.packed}
 use Rattle.mum_fields.specs.Content.{Content, Varint, Fixed8, Block, Fixed4}
-use Rattle.mum_fields.specs.Field.{Entry}
-use Rattle.mum_fields.specs.Payload.{Walk, fields, packed}
 
 -- ---- values: a singular number has its last value, a repeated one all of them
 
@@ -114,14 +111,15 @@ only number rule n = if n == number then rule else any_block
 abbrev pub entry_fault : (ℕ → Rule) → Entry → Option FieldFault
 entry_fault rules e = value_fault (rules e.number) e
 
--- the first from left to right, in a value or behind the last field that is whole
+-- the first from left to right, in a value or after the last field that is whole
 abbrev pub first_fault : (ℕ → Rule) → List Entry → Option FieldFault → Option FieldFault
 first_fault rules [] end = end
 first_fault rules (e ∷ es) end = or_else (entry_fault rules e) (first_fault rules es end)
 
 -- a message in a message; its places are those of the whole payload
 abbrev pub message : (ℕ → Rule) → Rule
-message rules place block = let inside = fields (record { place = place; rest = block }) in first_fault rules inside.items inside.fault
+message rules place block = let inside = fields
+    (record { place = place; rest = block }) in first_fault rules inside.items inside.fault
 
 -- ---- what is decoded: the first fault, or what the fields make
 

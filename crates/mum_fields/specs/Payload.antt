@@ -13,7 +13,7 @@ AreFields c [] = c.rest ≡ []
 AreFields c (e ∷ es) = (front : List ℕ) × (rest : List ℕ) × (c.rest ≡ front ++ rest) × IsField c.place e front
     × AreFields (record { place = c.place + length front; rest = rest }) es
 
--- what stands before the end or the first fault, and the fault
+-- what comes before the end or the first fault, and the fault
 pub record Walk (X : Type 0) : Type 0 where
   pub items : List X
   pub fault : Option FieldFault

@@ -1,19 +1,16 @@
 -- Messages as tables. A table has a row for each field, in the order of their numbers: its label, type and
 -- number as Mumble.proto gives them, and the part of the message that it is. A field whose type is a message
 -- has the layout of that message: its labels, types and numbers. What a payload decodes to and how a message
--- is spelled follow from the layout.
+-- is encoded follow from the layout.
 use Rattle.std.specs.Prelude.{◌≡◌, ℕ, ℤ, Bool, true, false, List, [], ◌∷◌, ◌++◌, map, min, ◌==◌, nat_lt, nat_le, ◌&&◌, Option, Some, None, Result, Ok, Err, if◌then◌else◌}
 use Rattle.mum_fields.specs.declared.message.MessageFault.{MessageFault}
 use Rattle.mum_fields.specs.declared.message.MessageFault.TheVariants.{MissingField, OutOfMemory}
-use Rattle.mum_fields.specs.declared.shape.Kind.{Kind}
-use Rattle.mum_fields.specs.declared.shape.Kind.TheVariants.{Number, Utf8, Raw}
-use Rattle.mum_fields.specs.declared.shape.Label.{Label}
+use Rattle.mum_fields.specs.declared.shape.Kind.{Kind, TheVariants.Number, TheVariants.Utf8, TheVariants.Raw}
+use Rattle.mum_fields.specs.declared.shape.{Label.Label, Scalar.Scalar}
 use Rattle.mum_fields.specs.declared.shape.Label.TheVariants.{Optional, Required, RequiredOr, Repeated}
-use Rattle.mum_fields.specs.declared.shape.Scalar.{Scalar}
 use Rattle.mum_fields.specs.declared.shape.Scalar.TheVariants.{Unsigned32, Unsigned64, Signed32, Truth}
 use Rattle.mum_fields.specs.Number.{low_32, signed_32, truth, extended, truth_number}
-use Rattle.mum_fields.specs.Field.{Entry, last_number}
-use Rattle.mum_fields.specs.Payload.{Walk, at_start, fields}
+use Rattle.mum_fields.specs.{Field.Entry, Field.last_number, Payload.Walk, Payload.at_start, Payload.fields}
 use Rattle.mum_fields.specs.Written.{Item, written, block_item, number_items, block_items, each_number, each_block}
 use Rattle.mum_fields.specs.Message.{Decodes, Rule, any_block, text, packed_numbers, message, varint_of, block_of, blocks_of, messages_of, numbers_of, last, every, outcome}
 
@@ -109,7 +106,8 @@ repeated_message rows number part = BlocksRow (layout rows) number (λ m. map (p
 abbrev pub rising : ℕ → Layout → Bool
 rising low Nothing = true
 rising low (Field label kind number others) = nat_lt low number && (nat_le number last_number && rising number others)
-rising low (Blocks inside number others) = nat_lt low number && (nat_le number last_number && (rising 0 inside && rising number others))
+rising low (Blocks inside number others) =
+    nat_lt low number && (nat_le number last_number && (rising 0 inside && rising number others))
 
 -- ---- reading
 
@@ -151,8 +149,10 @@ value_after Repeated kind number before es = every (all_in kind) number before e
 
 abbrev pub values_after : (fields : Layout) → Values fields → List Entry → Values fields
 values_after Nothing values es = tt
-values_after (Field label kind number others) values es = (value_after label kind number values.0 es, values_after others values.1 es)
-values_after (Blocks inside number others) values es = (every (messages_of (values_after inside (no_values inside))) number values.0 es, values_after others values.1 es)
+values_after (Field label kind number others) values es =
+    (value_after label kind number values.0 es, values_after others values.1 es)
+values_after (Blocks inside number others) values es =
+    (every (messages_of (values_after inside (no_values inside))) number values.0 es, values_after others values.1 es)
 
 -- what a block of a field has to be
 abbrev pub rule_of : Label → Kind → Rule
@@ -197,7 +197,8 @@ has_value Repeated kind values = has_items values
 -- the field of this number is set
 abbrev pub is_set : (fields : Layout) → Values fields → ℕ → Bool
 is_set Nothing values n = false
-is_set (Field label kind number others) values n = if n == number then has_value label kind values.0 else is_set others values.1 n
+is_set (Field label kind number others) values n =
+    if n == number then has_value label kind values.0 else is_set others values.1 n
 is_set (Blocks inside number others) values n = if n == number then has_items values.0 else is_set others values.1 n
 
 abbrev pub missing_in : (label : Label) → (kind : Kind) → ℕ → Value label kind → (ℕ → Bool) → Option ℕ
@@ -211,7 +212,8 @@ missing_in Repeated kind number values is_later_set = None
 -- the least required number that is not set, in the message or in a block of it
 abbrev pub missing : (fields : Layout) → Values fields → Option ℕ
 missing Nothing values = None
-missing (Field label kind number others) values = lesser (missing_in label kind number values.0 (is_set others values.1)) (missing others values.1)
+missing (Field label kind number others) values =
+    lesser (missing_in label kind number values.0 (is_set others values.1)) (missing others values.1)
 missing (Blocks inside number others) values = lesser (least (map (missing inside) values.0)) (missing others values.1)
 
 -- ---- what is decoded
@@ -269,15 +271,16 @@ items Nothing values = []
 items (Field label kind number others) values = row_items label kind number values.0 ++ items others values.1
 items (Blocks inside number others) values = each_message (items inside) number values.0 ++ items others values.1
 
--- the spelling of a message: each field that is set, in the order of the numbers
+-- the encoding of a message: each field that is set, in the order of the numbers
 abbrev pub spelled : {M : Type 0} → (rows : Table M) → M → List ℕ
 spelled rows m = written (items (layout rows) (parts rows m))
 
--- this message, or want of memory
+-- this message, or out of memory
 abbrev pub IsItOrNoMemory : {M : Type 0} → M → Result M MessageFault → Type 0
 IsItOrNoMemory m (Ok read) = read ≡ m
 IsItOrNoMemory m (Err e) = e ≡ OutOfMemory
 
--- whatever `decode` may answer for the payload is this message, or want of memory
+-- whatever `decode` may answer for the payload is this message, or out of memory
 abbrev pub ReadsAs : {M : Type 0} → Table M → List ℕ → M → Type 0
-ReadsAs {M} rows payload m = (read : Result M MessageFault) → Decodes (parts rows) read (decoded rows payload) → IsItOrNoMemory m read
+ReadsAs {M} rows payload m =
+    (read : Result M MessageFault) → Decodes (parts rows) read (decoded rows payload) → IsItOrNoMemory m read

@@ -1,11 +1,9 @@
--- What the values of a message are by their types: a number fits its type and is its own spelling's value, a
--- text is UTF-8, and bytes and spelled blocks have a length.
+-- What the values of a message are by their types: a number fits its type and is its own encoding's value, a
+-- text is UTF-8, and bytes and encoded blocks have a length.
 use Rattle.std.specs.Prelude.{◌≡◌, ℕ, ◌<◌, ◌^◌, List, length, IfSome}
-use Rattle.std.specs.List.{All}
-use Rattle.std.specs.Str.{IsUtf8}
+use Rattle.std.specs.{List.All, Str.IsUtf8}
 use Rattle.mum_fields.specs.Written.{written}
-use Rattle.mum_fields.specs.declared.shape.Kind.{Kind}
-use Rattle.mum_fields.specs.declared.shape.Kind.TheVariants.{Number, Utf8, Raw}
+use Rattle.mum_fields.specs.declared.shape.Kind.{Kind, TheVariants.Number, TheVariants.Utf8, TheVariants.Raw}
 use Rattle.mum_fields.specs.declared.shape.Label.{Label}
 use Rattle.mum_fields.specs.declared.shape.Label.TheVariants.{Optional, Required, RequiredOr, Repeated}
 use Rattle.mum_fields.specs.Table.{One, Value, Layout, Nothing, Field, Blocks, Values, value_of, scalar_number, items}
@@ -38,6 +36,6 @@ AreTyped (Field label kind number others) values = IsTyped label kind values.0 �
 AreTyped (Blocks inside number others) values =
     All (λ x. AreTyped inside x × IsBytes (written (items inside x))) values.0 × AreTyped others values.1
 
--- the messages of a list, each with a spelling that has a length
+-- the messages of a list, each with an encoding that has a length
 abbrev pub AreTypedBlocks : (inside : Layout) → List (Values inside) → Type 0
 AreTypedBlocks inside xs = All (λ x. AreTyped inside x × IsBytes (written (items inside x))) xs

@@ -1,10 +1,8 @@
 -- What a writer writes: each field with the shortest varints.
 use Rattle.std.specs.Prelude.{ℕ, map, Option, Some, None, ◌+◌, ◌*◌, ◌<◌, ◌^◌, List, [], ◌∷◌, ◌++◌, length}
-use Rattle.std.specs.Int.{w32, w64, to_le_bytes}
-use Rattle.std.specs.List.{flat_map}
-use Rattle.mum_fields.specs.Varint.{shortest}
+use Rattle.std.specs.{Int.w32, Int.w64, Int.to_le_bytes, List.flat_map}
+use Rattle.mum_fields.specs.{Varint.shortest, Field.Entry, Field.wire_type, Field.IsNumber}
 use Rattle.mum_fields.specs.Content.{Content, Varint, Fixed8, Block, Fixed4}
-use Rattle.mum_fields.specs.Field.{Entry, wire_type, IsNumber}
 
 -- a field without a place
 pub record Item : Type 0 where
@@ -29,7 +27,7 @@ spelling item = shortest (item.number * 8 + wire_type item.content) ++ value_byt
 abbrev pub written : List Item → List ℕ
 written items = flat_map spelling items
 
--- what has a spelling
+-- what has an encoding
 abbrev pub FitsContent : Content → Type 0
 FitsContent (Varint n) = n < 2 ^ 64
 FitsContent (Fixed8 n) = n < 2 ^ 64
@@ -40,7 +38,7 @@ pub record Fits (item : Item) : Type 0 where
   pub number : IsNumber item.number
   pub content : FitsContent item.content
 
--- the length of a block stands before it
+-- the length of a block comes before it
 abbrev pub skipped : Content → ℕ
 skipped (Varint n) = 0
 skipped (Fixed8 n) = 0

@@ -6,7 +6,7 @@ use crate::fault::{FaultKind, FieldFault};
 use crate::field::{Placed, Value};
 use crate::varint::read_varint;
 
-/// The greatest number of a field (Protocol Buffers, "Assigning Field Numbers").
+// The greatest number of a field (Protocol Buffers, "Assigning Field Numbers").
 const LAST_NUMBER: u64 = 536_870_911;
 
 /// The bytes that are left, and the place in the payload of the first of them.
@@ -43,7 +43,7 @@ impl<'a> Cursor<'a> {
         }
     }
 
-    /// So many bytes from the front. Where they are not left, that is this fault.
+    // This many bytes from the front. Where they are not left, that is this fault.
     #[tactic(auto, unfolding(crate::specs::Field::bytes_at))]
     fn bytes(self, missing: FaultKind, count: usize) -> Result<(&'a [u8], Cursor<'a>), FieldFault>
         ensures reads { IsRead (λ x. (x.0.now, cursor_of x.1)) result
@@ -86,7 +86,7 @@ impl<'a> Cursor<'a> {
         Some((u64::from(byte), self.skip(1)))
     }
 
-    // The value behind a key of this number and wire type, where it is a number or a block and its varint has one byte.
+    // The value after a key of this number and wire type, where it is a number or a block and its varint has one byte.
     #[tactic(auto, unfolding(crate::specs::Field::value_at))]
     fn short_value(self, number: u32, wire_type: u64) -> Option<(Placed<'a>, Cursor<'a>)>
         ensures { (key : ℕ) → IfSome result (λ x.
@@ -122,7 +122,7 @@ impl<'a> Cursor<'a> {
         after.short_value(number as u32, key % 8)
     }
 
-    // The value behind a key that has this place, number and wire type.
+    // The value after a key that has this place, number and wire type.
     #[tactic(auto, unfolding(crate::specs::Field::value_at))]
     fn value(
         self,

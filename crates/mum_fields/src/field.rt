@@ -20,7 +20,7 @@ pub struct Field<'a> {
 }
 
 /// A field, and the place in the payload where its value begins: the first byte of its number, or
-/// the first byte of its block (behind the block's length).
+/// the first byte of its block (after the block's length).
 #[derive(Clone, Copy)]
 pub struct Placed<'a> {
     pub at: usize,

@@ -10,8 +10,8 @@ ghost use Rattle.mum_fields.specs.NoField.{HasNoVarint, StopsAt};
 ghost use Rattle.mum_fields.specs.declared.fault.FieldFault.{FieldFault};
 ghost use Rattle.mum_fields.specs.Written.{Item, Fits, written, placed_from};
 
-/// The fields that a reader gives up to the end are those that the bytes spell, and no others. The
-/// fault that it stops at is the first, behind the fields before it.
+/// The fields that a reader gives up to the end are those that the bytes encode, and no others. The
+/// fault that it stops at is the first, after the fields before it.
 pub fn fields_are_the_grammar()
     ensures whole { (c : Cursor) (es : List Entry)
         → (fields c ≡ record { items = es; fault = None }) ↔ AreFields c es }

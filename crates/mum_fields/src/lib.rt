@@ -1,6 +1,6 @@
 //! Fields of a Protocol Buffers payload, read and written: the one place where the bytes of a
-//! message are taken apart. A `Message` tells its fields by a table, and gathers itself from the fields
-//! that `Reader` gives; `Writer` puts a payload together, and `Length` tells how long it would be.
+//! message are taken apart. A `Message` lists its fields in a table, and gathers itself from the fields
+//! that `Reader` gives; `Writer` puts a payload together, and `Length` reports how long it would be.
 #![tactic(auto)]
 
 mod cursor;

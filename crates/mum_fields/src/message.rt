@@ -52,7 +52,7 @@ impl From<AllocError> for MessageFault {
 impl MessageFault {
     ghost use Rattle.mum_fields.specs.Message.{message_code};
 
-    /// The number of the fault, 11 to 16. Want of memory has none.
+    /// The number of the fault, 11 to 16. Out of memory has none.
     pub fn code(&self) -> Option<u8>
         ensures { result ≡ message_code self.now }
     {
@@ -64,7 +64,7 @@ impl MessageFault {
     }
 }
 
-/// A message of the protocol, told by the table of its fields. It is its own draft: a decoder begins
+/// A message of the protocol, described by the table of its fields. It is its own draft: a decoder begins
 /// with one in which nothing is set and hands it each field of the payload.
 pub trait Message: Drop {
     ghost rows: { Table Self };
@@ -88,12 +88,12 @@ pub trait Message: Drop {
             ≡ writer ++ written (items (layout rows) (parts rows self.now))) }
         ensures typed { OnOk result (AreTyped (layout rows) (parts rows self.now)) };
 
-    /// How many bytes this message has as this server spells it, or 2^64 - 1 where they are more.
+    /// How many bytes this message has as this server encodes it, or 2^64 - 1 where they are more.
     /// It takes no memory.
     fn length(&self) -> u64
         ensures { result ≡ size (items (layout rows) (parts rows self.now)) };
 
-    /// How many bytes the message of a payload has as this server spells it, or 2^64 - 1 where they
+    /// How many bytes the message of a payload has as this server encodes it, or 2^64 - 1 where they
     /// are more; or why the payload is no message. It takes no memory, and copies nothing.
     fn survey(payload: &[u8]) -> Result<u64, MessageFault>
         ensures { result ≡ surveyed rows payload.now };
@@ -106,7 +106,7 @@ pub trait Message: Drop {
     /// The message that a payload is. A field of another number or wire type is passed over, in
     /// blocks too. A refusal is the first fault of a field with its place in the whole payload;
     /// where each field is whole, it is the least required number that is missing, in the message or
-    /// in a block of it; and where nothing is missing, want of memory.
+    /// in a block of it; and where nothing is missing, out of memory.
     final fn decode(alloc: Global, payload: &[u8]) -> Result<Self, MessageFault>
         ensures { Decodes (parts rows) result (decoded rows payload.now) }
     {
@@ -140,7 +140,7 @@ pub trait Message: Drop {
     }
 }
 
-/// Gathers the fields that are left into a message, in one pass; each text is copied once.
+// Gathers the fields that are left into a message, in one pass; each text is copied once.
 fn gather<M: Message>(alloc: Global, mut reader: Reader<'_>) -> Result<M, MessageFault>
     ensures { Gathers (parts M.rows) result (gathered (layout M.rows) (fields reader.entry)) }
 {
@@ -151,7 +151,7 @@ fn gather<M: Message>(alloc: Global, mut reader: Reader<'_>) -> Result<M, Messag
     Ok(message)
 }
 
-/// One more message of a list: a block of this number. A fault inside the block is told by its
+/// One more message of a list: a block of this number. A fault inside the block is reported by its
 /// place in the whole payload; what is missing in the block is no fault here.
 pub fn add_message<M: Message>(
     alloc: Global,

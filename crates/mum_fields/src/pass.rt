@@ -1,5 +1,5 @@
-//! A pass over a payload before it is decoded: it takes no memory, and tells the first fault of the
-//! payload, or how long the message is as this server spells it.
+//! A pass over a payload before it is decoded: it takes no memory, and reports the first fault of the
+//! payload, or how long the message is as this server encodes it.
 
 ghost use Rattle.std.specs.Prelude.{◌≡◌, ◌≢◌, ℕ, ◌+◌, ◌-◌, ◌^◌, ◌≤◌, ◌<◌, Bool, map, min, None, true, length, MatchOption};
 ghost use Rattle.std.specs.List.{All, HoldsAt};
@@ -17,10 +17,10 @@ use crate::shape::{FieldShape, Label, Shape};
 use crate::size::block_size;
 
 /// How many fields a message may have.
-pub const SLOTS: usize = 24;
+pub const FIELD_LIMIT: usize = 24;
 
 // How many fields most messages in blocks have at most. There may be very many of those.
-const FEW_SLOTS: usize = 8;
+const FEW_FIELDS: usize = 8;
 
 /// What is kept of the value of a field, or of a message.
 #[derive(Clone, Copy)]
@@ -48,7 +48,7 @@ pub trait Row {
     fn label(&self) -> Label
         ensures { result ≡ label_of (slot self.now) };
 
-    /// What is kept of its value behind one more field of its number, or the first fault of that.
+    /// What is kept of its value after one more field of its number, or the first fault of that.
     fn after(&self, before: Part, placed: &Placed<'_>) -> Result<Part, FieldFault>
         requires sound { is_sound (slot self.now) ≡ true }
         requires own { placed.now.field.number ≡ number_of (slot self.now) }
@@ -123,7 +123,7 @@ impl<'a> Row for Shape<'a> {
     }
 }
 
-/// The place of the field of a number.
+// The place of the field of a number.
 fn place_of<S: Row>(rows: &[S], number: u32) -> Option<usize>
     ensures { MatchOption result (All (λ row. number_of (S.slot row) ≢ number) rows.now)
         (λ i. (i < length rows.now) × HoldsAt (λ row. number_of (S.slot row) ≡ number) rows.now i) }
@@ -136,7 +136,7 @@ fn place_of<S: Row>(rows: &[S], number: u32) -> Option<usize>
     None
 }
 
-/// The field of its number takes one field of a payload.
+// The field of its number takes one field of a payload.
 fn take<S: Row>(rows: &[S], parts: &mut [Part], placed: &Placed<'_>) -> Result<(), FieldFault>
     requires room { has_room (map S.slot rows.now) ≡ true }
     requires parts { length rows.now ≤ length parts.old }
@@ -152,7 +152,7 @@ fn take<S: Row>(rows: &[S], parts: &mut [Part], placed: &Placed<'_>) -> Result<(
     Ok(())
 }
 
-/// Whether the field of a number is set.
+// Whether the field of a number is set.
 fn is_set<S: Row>(rows: &[S], parts: &[Part], number: u32) -> bool
     requires { length rows.now ≤ length parts.now }
     ensures { (values : Values (form_of (map S.slot rows.now)))
@@ -171,7 +171,7 @@ fn is_set<S: Row>(rows: &[S], parts: &[Part], number: u32) -> bool
     is_set(others, behind, number)
 }
 
-/// What the value of a field misses, or the number of the field where it has to be set and is not.
+// What the value of a field misses, or the number of the field where it has to be set and is not.
 fn missing_of<S: Row>(row: &S, part: &Part, others: &[S], behind: &[Part]) -> Option<u32>
     requires { length others.now ≤ length behind.now }
     ensures { (held : Held (S.slot row.now)) → part.now ≡ part_of (S.slot row.now) held
@@ -222,7 +222,7 @@ fn joined(sum: Part, length: u64, missing: Option<u32>) -> Part
     }
 }
 
-/// What the values of all fields come to.
+// What the values of all fields come to.
 fn sum_up<S: Row>(rows: &[S], parts: &[Part]) -> Part
     requires { length rows.now ≤ length parts.now }
     ensures { (values : Values (form_of (map S.slot rows.now)))
@@ -277,10 +277,10 @@ fn outline<S: Row>(rows: &[S], reader: Reader<'_>) -> Result<Part, FieldFault>
     requires { has_room (map S.slot rows.now) ≡ true }
     ensures { result ≡ outlined (form_of (map S.slot rows.now)) (fields reader.entry) }
 {
-    if rows.len() <= FEW_SLOTS {
-        return outline_in(rows, &mut [NOTHING; FEW_SLOTS], reader);
+    if rows.len() <= FEW_FIELDS {
+        return outline_in(rows, &mut [NOTHING; FEW_FIELDS], reader);
     }
-    outline_in(rows, &mut [NOTHING; SLOTS], reader)
+    outline_in(rows, &mut [NOTHING; FIELD_LIMIT], reader)
 }
 
 // The same with these slots, in which nothing is kept yet.
@@ -300,8 +300,8 @@ fn outline_in<S: Row>(
     Ok(sum_up(rows, parts))
 }
 
-/// How many bytes the message of a payload has as this server spells it, or 2^64 - 1 where they are
-/// more; or the first fault of the payload. A message with these fields tells it by this call.
+/// How many bytes the message of a payload has as this server encodes it, or 2^64 - 1 where they are
+/// more; or the first fault of the payload. A message with these fields reports it by this call.
 pub fn survey<S: Row>(rows: &[S], payload: &[u8]) -> Result<u64, MessageFault>
     requires { has_room (map S.slot rows.now) ≡ true }
     ensures { result ≡ spelled_size (form_of (map S.slot rows.now))

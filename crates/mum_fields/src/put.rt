@@ -1,4 +1,4 @@
-//! The fields of a message, written one by one. Each call tells of the values that it has written
+//! The fields of a message, written one by one. Each call states the values that it has written
 //! what their types say, so that a message is known to be read back.
 
 ghost use Rattle.std.specs.Prelude.{◌≡◌, ℕ, ◌++◌, ◌<◌, ◌≤◌, ◌^◌, map, take, OnOk, OnErr, IfSome};

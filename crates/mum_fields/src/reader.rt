@@ -41,7 +41,7 @@ impl<'a> Reader<'a> {
         }
     }
 
-    /// A reader of a block that begins at this place of a payload. Its faults are told by their
+    /// A reader of a block that begins at this place of a payload. Its faults are reported by their
     /// place in that payload.
     pub fn within(block: &'a [u8], place: usize) -> Reader<'a>
         requires { place + length block.now < 2 ^ 64 }

@@ -16,7 +16,7 @@ use crate::shape::{Kind, Scalar};
 use crate::text::read_text;
 use crate::writer::{BLOCK, VARINT};
 
-/// How many bytes the shortest varint of a number has.
+// How many bytes the shortest varint of a number has.
 fn varint_size(number: u64) -> u64
     ensures size { result ≡ length (shortest number) }
     ensures few { result ≤ 10 }
@@ -38,7 +38,7 @@ pub fn number_size(number: u32, value: u64) -> u64
     varint_size(u64::from(number) * 8 + VARINT) + varint_size(value)
 }
 
-/// The size of a block of so many bytes with its key and its length.
+/// The size of a block of n bytes with its key and its length.
 pub fn block_size(number: u32, bytes: u64) -> u64
     requires { number ≤ last_number }
     ensures { (block : List ℕ) → bytes ≡ cut (length block)
@@ -56,7 +56,7 @@ pub fn bytes_size(number: u32, block: &[u8]) -> u64
     block_size(number, block.len() as u64)
 }
 
-/// The varint that is written for the value which a varint stands for.
+// The varint that is written for the value which a varint stands for.
 fn respelled<N: VarintType>(varint: u64) -> u64
     ensures { result ≡ N.number_of (N.value_of varint) }
 {
@@ -64,7 +64,7 @@ fn respelled<N: VarintType>(varint: u64) -> u64
 }
 
 impl Scalar {
-    /// The varint that is written for the value of a varint.
+    // The varint that is written for the value of a varint.
     fn number(self, varint: u64) -> u64
         ensures { result ≡ scalar_number self (value_of self varint) }
     {
@@ -77,7 +77,7 @@ impl Scalar {
     }
 }
 
-/// The size of the numbers of a packed block, each with a key of its own.
+// The size of the numbers of a packed block, each with a key of its own.
 fn packed_size(number: u32, scalar: Scalar, mut numbers: Packed<'_>) -> Result<u64, FieldFault>
     requires { number ≤ last_number }
     ensures { result ≡ answered (packed numbers.entry).fault

@@ -6,7 +6,7 @@ ghost use Rattle.mum_fields.specs.Varint.{varint, shortest};
 use crate::fault::FaultKind;
 use std::alloc::AllocError;
 
-/// The index of the last byte that a varint may have. It holds the top bit of 64.
+// The index of the last byte that a varint may have. It holds the top bit of 64.
 const LAST_BYTE: usize = 9;
 
 /// The number at the front of the bytes, and how many bytes it takes.
@@ -34,7 +34,7 @@ pub fn read_varint(bytes: &[u8]) -> Result<(u64, usize), FaultKind>
     Err(FaultKind::Truncated)
 }
 
-/// Writes the number at the end, in its shortest spelling.
+/// Writes the number at the end, in its shortest encoding.
 pub fn push_varint(out: &mut Vec<u8>, number: u64) -> Result<(), AllocError>
     ensures ok { OnOk result (out.new.items ≡ out.old.items ++ shortest number) }
     ensures err { OnErr result ((part : List ℕ) × (out.new.items ≡ out.old.items ++ part)) }

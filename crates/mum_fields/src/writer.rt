@@ -12,7 +12,7 @@ use std::marker::Model;
 /// The wire type of a varint.
 pub const VARINT: u64 = 0;
 
-/// The wire type of a block behind its length.
+/// The wire type of a block after its length.
 pub const BLOCK: u64 = 2;
 
 fn push_varint_field(out: &mut Vec<u8>, number: u32, value: u64) -> Result<(), OutOfMemory>
@@ -67,7 +67,7 @@ impl Writer {
         Writer::new(self.alloc)
     }
 
-    /// Writes a varint field. Want of memory leaves what was written before.
+    /// Writes a varint field. Where memory runs out, this leaves what was written before.
     pub fn put_varint(&mut self, number: u32, value: u64) -> Result<(), OutOfMemory>
         requires some { 1 ≤ number }
         requires few { number ≤ last_number }
@@ -82,7 +82,7 @@ impl Writer {
         done
     }
 
-    /// Writes a block: bytes, a text, or the payload of a message in a message. Want of memory
+    /// Writes a block: bytes, a text, or the payload of a message in a message. Out of memory
     /// leaves what was written before.
     pub fn put_block(&mut self, number: u32, bytes: &[u8]) -> Result<(), OutOfMemory>
         requires some { 1 ≤ number }

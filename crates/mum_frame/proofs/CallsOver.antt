@@ -1,20 +1,6 @@
 -- What any calls of a framer leave: the frames given, and then what is kept.
-use Rattle.std.proofs.Common.{◌≡◌, ℕ, ◌≤◌, List, [], ◌∷◌, ◌++◌, length, drop, Option, Some, None, Result, Ok, Err, sym, ap, ◌∙◌, subst, arith, append_assoc}
-use Rattle.std.specs.List.{All, AllByRecursion as Each, flat_map}
-use Rattle.std.proofs.lemmas.List.{append-nil, drop-append-le, length-append, length-drop}
-use Rattle.std.proofs.lemmas.List.Elements.{All-from_recursion}
-use Rattle.byteorder.specs.Endian.{big_number}
-use Rattle.byteorder.specs.Numbers.{big_from-append}
-use Rattle.mum_frame.specs.declared.frame.TheConstants.{HEADER_LENGTH}
-use Rattle.mum_frame.specs.declared.frame.Frame.{Frame}
-use Rattle.mum_frame.specs.declared.framer.FrameFault.{FrameFault}
-use Rattle.mum_frame.specs.declared.framer.FrameFault.TheVariants.{FrameTooLong, OutOfMemory}
-use Rattle.mum_frame.specs.Calls.{Call, fed, asked, Leads, bytes_fed, frames_given}
-use Rattle.mum_frame.specs.Frame.{frame_spelling, IsFrame, HasNoFrame, TooLong, named_length}
-use Rattle.mum_frame.specs.Stream.{NextGives, IsFront, Splits}
-use Rattle.mum_frame.proofs.Replies.{none_from, none_to, too_long_from, too_long_to}
-use Rattle.mum_frame.proofs.Headers.{HasNoFrame-above_limit}
-use Rattle.mum_frame.proofs.Streams.{joined, joined-cons, longest-Splits}
+use Rattle.mum_frame.proofs.Common.{◌≡◌, ℕ, ◌≤◌, List, [], ◌∷◌, ◌++◌, length, drop, Option, Some, None, Result, Ok, Err, sym, ap, ◌∙◌, subst, arith, append_assoc, All, Each, flat_map, append-nil, drop-append-le, length-append, length-drop, All-from_recursion, big_number, big_from-append, HEADER_LENGTH, Frame, FrameFault, FrameTooLong, OutOfMemory, Call, fed, asked, Leads, bytes_fed, frames_given, frame_spelling, IsFrame, HasNoFrame, TooLong, named_length, NextGives, IsFront, Splits}
+use Rattle.mum_frame.proofs.{Replies.none_from, Replies.none_to, Replies.too_long_from, Replies.too_long_to, Headers.HasNoFrame-above_limit, Streams.joined, Streams.joined-cons, Streams.longest-Splits}
 
 -- what was kept and what was fed is what was given and what is kept
 Leads-joined : (old : List ℕ) (calls : List Call) (new : List ℕ) → Leads old calls new → old ++ bytes_fed calls ≡ joined (frames_given calls) new
@@ -78,7 +64,7 @@ given_too_long calls kept new answer leads gives = (
   λ all. too_long_to kept answer new gives all.1,
 )
 
--- a header that stands names the same, whatever follows
+-- a header that is there names the same, whatever follows
 pub named_length-append : (bytes more : List ℕ) → HEADER_LENGTH ≤ length bytes → named_length (bytes ++ more) ≡ named_length bytes
 unfolding named_length
 named_length-append bytes more header =

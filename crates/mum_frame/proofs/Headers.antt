@@ -1,11 +1,5 @@
--- What a header says of the bytes behind it, and that a frame is read back from its spelling.
-use Rattle.std.proofs.Common.{◌≡◌, ℕ, ◌+◌, ◌*◌, ◌/◌, ◌%◌, ◌^◌, ◌-◌, ◌<◌, ◌≤◌, List, [], ◌∷◌, ◌++◌, length, take, drop, get_or, refl, sym, ap, ◌∙◌, arith, length-append, length-drop}
-use Rattle.std.proofs.lemmas.List.{drop_at, take_at, take-append-drop, drop-drop, length-take-le, take_rest}
-use Rattle.byteorder.specs.Endian.{big_bytes, big_number}
-use Rattle.byteorder.specs.Numbers.{big_number-reads_back}
-use Rattle.mum_frame.specs.declared.frame.TheConstants.{HEADER_LENGTH, PAYLOAD_LIMIT}
-use Rattle.mum_frame.specs.declared.frame.Frame.{Frame}
-use Rattle.mum_frame.specs.Frame.{frame_spelling, spelling_of, IsFrame, named_length, TooLong, HasNoFrame}
+-- What a header says of the bytes after it, and that a frame is read back from its encoding.
+use Rattle.mum_frame.proofs.Common.{◌≡◌, ℕ, ◌+◌, ◌*◌, ◌/◌, ◌%◌, ◌^◌, ◌-◌, ◌<◌, ◌≤◌, List, [], ◌∷◌, ◌++◌, length, take, drop, get_or, refl, sym, ap, ◌∙◌, arith, length-append, length-drop, drop_at, take_at, take-append-drop, drop-drop, length-take-le, take_rest, big_bytes, big_number, big_number-reads_back, HEADER_LENGTH, PAYLOAD_LIMIT, Frame, frame_spelling, spelling_of, IsFrame, named_length, TooLong, HasNoFrame}
 
 -- the header of a frame, in front of what follows it
 pub spelling_of-parts : (kind : ℕ) (payload rest : List ℕ)
@@ -94,7 +88,7 @@ four_bytes-is a b c d rest ha hb hc hd =
     let at_d : (a * 16777216 + (b * 65536 + (c * 256 + (d * 1 + 0)))) % 256 ≡ d = omega arith in
     cc
 
--- bytes are the spelling of what their header names, and what follows
+-- bytes are the encoding of what their header names, and what follows
 pub header_is : (bytes : List ℕ) → ((k : ℕ) → get_or bytes k 0 < 256) → HEADER_LENGTH ≤ length bytes
     → bytes ≡ big_bytes 2 (big_number 2 bytes) ++ (big_bytes 4 (named_length bytes) ++ drop HEADER_LENGTH bytes)
 unfolding named_length

@@ -1,3 +1,5 @@
+mod Common
+pub mod Public
 pub mod Headers
 pub mod Replies
 pub mod Streams

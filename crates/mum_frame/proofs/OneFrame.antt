@@ -1,12 +1,5 @@
 -- Bytes that are one frame.
-use Rattle.std.proofs.Common.{◌≡◌, ℕ, ◌+◌, ◌-◌, ◌<◌, ◌≤◌, ◌==◌, true, List, [], ◌++◌, length, take, drop, get_or, refl, sym, ap, ◌∙◌, arith, length-drop}
-use Rattle.std.specs.Prelude.{nat_le}
-use Rattle.std.proofs.lemmas.Bool.{and_parts, and_from, eqb-true, eq-eqb, leb-true, le-leb}
-use Rattle.std.proofs.lemmas.List.{append-nil, drop_all, take_rest, length-take-le}
-use Rattle.byteorder.specs.Endian.{big_number}
-use Rattle.mum_frame.specs.declared.frame.TheConstants.{HEADER_LENGTH, PAYLOAD_LIMIT}
-use Rattle.mum_frame.specs.declared.frame.Frame.{Frame}
-use Rattle.mum_frame.specs.Frame.{frame_spelling, IsFrame, IsOneFrame, is_one_frame, kind_of, named_length, payload_of}
+use Rattle.mum_frame.proofs.Common.{◌≡◌, ℕ, ◌+◌, ◌-◌, ◌<◌, ◌≤◌, ◌==◌, true, List, [], ◌++◌, length, take, drop, get_or, refl, sym, ap, ◌∙◌, arith, length-drop, nat_le, and_parts, and_from, eqb-true, eq-eqb, leb-true, le-leb, append-nil, drop_all, take_rest, length-take-le, big_number, HEADER_LENGTH, PAYLOAD_LIMIT, Frame, frame_spelling, IsFrame, IsOneFrame, is_one_frame, kind_of, named_length, payload_of}
 use Rattle.mum_frame.proofs.Headers.{drop-header, kind-reads_back, length-reads_back, length-spelling_of, whole_is}
 
 -- the type and the payload are read back

@@ -1,10 +1,5 @@
 -- What each answer of `next` says of the bytes that are kept.
-use Rattle.std.proofs.Common.{◌≡◌, ℕ, List, Option, Some, None, Result, Ok, Err, refl, sym, ap, ◌∙◌}
-use Rattle.mum_frame.specs.declared.frame.Frame.{Frame}
-use Rattle.mum_frame.specs.declared.framer.FrameFault.{FrameFault}
-use Rattle.mum_frame.specs.declared.framer.FrameFault.TheVariants.{FrameTooLong, OutOfMemory}
-use Rattle.mum_frame.specs.Frame.{HasNoFrame, TooLong, named_length}
-use Rattle.mum_frame.specs.Stream.{NextGives}
+use Rattle.mum_frame.proofs.Common.{◌≡◌, ℕ, List, Option, Some, None, Result, Ok, Err, refl, sym, ap, ◌∙◌, Frame, FrameFault, FrameTooLong, OutOfMemory, HasNoFrame, TooLong, named_length, NextGives}
 use Rattle.mum_frame.proofs.Headers.{HasNoFrame-above_limit}
 
 -- None comes where no frame begins and no length is too great
@@ -41,6 +36,6 @@ too_long_to old (Ok (Some frame)) new is above = absurd (HasNoFrame-above_limit 
 too_long_to old (Err (FrameTooLong length)) new is above = ap (λ (n : ℕ). Err (FrameTooLong n)) is.1
 too_long_to old (Err OutOfMemory) new is above = absurd (is.0 (HasNoFrame-above_limit old above))
 
--- want of memory where a frame begins
+-- out of memory where a frame begins
 pub NextGives-out_of_memory : (old : List ℕ) (answer : Result (Option Frame) FrameFault) → answer ≡ Err OutOfMemory → (HasNoFrame old → ⊥) → NextGives old answer old
 NextGives-out_of_memory old answer e whole = rw e (whole, refl)

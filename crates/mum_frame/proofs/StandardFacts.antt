@@ -1,14 +1,6 @@
 -- Worked frames, after the packet structure of the Mumble protocol documentation, so that a wrong rule in the specs
 -- does not check.
-use Rattle.std.proofs.Common.{◌≡◌, ℕ, ◌+◌, ◌<◌, ◌≤◌, true, false, List, [], ◌∷◌, ◌++◌, length, Some, None, Ok, Err, refl, arith}
-use Rattle.mum_base.proofs.Hex.{hex}
-use Rattle.mum_frame.specs.declared.frame.TheConstants.{HEADER_LENGTH, PAYLOAD_LIMIT}
-use Rattle.mum_frame.specs.declared.frame.Frame.{Frame}
-use Rattle.mum_frame.specs.declared.framer.FrameFault.TheVariants.{FrameTooLong}
-use Rattle.mum_frame.specs.declared.kind.TheConstants.{VERSION, AUTHENTICATE, PING, USER_STATE}
-use Rattle.mum_frame.specs.Frame.{spelling_of, IsFrame, named_length, kind_of, payload_of, is_one_frame}
-use Rattle.mum_frame.specs.Stream.{Splits, NextGives}
-use Rattle.mum_frame.specs.Calls.{fed, asked, Leads}
+use Rattle.mum_frame.proofs.Common.{◌≡◌, ℕ, ◌+◌, ◌<◌, ◌≤◌, true, false, List, [], ◌∷◌, ◌++◌, length, Some, None, Ok, Err, refl, arith, hex, HEADER_LENGTH, PAYLOAD_LIMIT, Frame, FrameTooLong, VERSION, AUTHENTICATE, PING, USER_STATE, spelling_of, IsFrame, named_length, kind_of, payload_of, is_one_frame, Splits, NextGives, fed, asked, Leads}
 use Rattle.mum_frame.proofs.Headers.{HasNoFrame-no_header, HasNoFrame-cut}
 
 -- ---- what a client opens with: Version, Authenticate, Ping, and a UserState with a plugin's context

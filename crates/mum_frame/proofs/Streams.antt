@@ -1,15 +1,5 @@
 -- The frames of a stream are one list, and any calls of a framer give the front of it.
-use Rattle.std.proofs.Common.{◌≡◌, ℕ, zero, suc, ◌+◌, ◌<◌, List, [], ◌∷◌, ◌++◌, length, take, drop, get_or, inl, inr, refl, sym, ap, ◌∙◌, arith, append_assoc}
-use Rattle.std.specs.List.{flat_map, All, AllByRecursion as Each}
-use Rattle.std.proofs.lemmas.Bool.{cases_lt}
-use Rattle.std.proofs.lemmas.List.{get_or-drop, get_or_past, length-drop, length-take-le}
-use Rattle.std.proofs.lemmas.List.Elements.{All-from_recursion, recursion_from_All}
-use Rattle.byteorder.specs.Endian.{big_number}
-use Rattle.byteorder.specs.Numbers.{big_from-lt}
-use Rattle.mum_frame.specs.declared.frame.TheConstants.{HEADER_LENGTH, PAYLOAD_LIMIT}
-use Rattle.mum_frame.specs.declared.frame.Frame.{Frame}
-use Rattle.mum_frame.specs.Frame.{frame_spelling, IsFrame, HasNoFrame, named_length}
-use Rattle.mum_frame.specs.Stream.{IsFront, Splits}
+use Rattle.mum_frame.proofs.Common.{◌≡◌, ℕ, zero, suc, ◌+◌, ◌<◌, List, [], ◌∷◌, ◌++◌, length, take, drop, get_or, inl, inr, refl, sym, ap, ◌∙◌, arith, append_assoc, flat_map, All, Each, cases_lt, get_or-drop, get_or_past, length-drop, length-take-le, All-from_recursion, recursion_from_All, big_number, big_from-lt, HEADER_LENGTH, PAYLOAD_LIMIT, Frame, frame_spelling, IsFrame, HasNoFrame, named_length, IsFront, Splits}
 use Rattle.mum_frame.proofs.Headers.{spelling-injective, HasNoFrame-above_limit, HasNoFrame-no_header, HasNoFrame-cut, frame_is}
 
 -- these frames, and then these bytes

@@ -1,8 +1,7 @@
 -- What a framer was called with and answered, in any order of `feed` and `next`.
 use Rattle.std.specs.Prelude.{◌≡◌, List, [], ◌∷◌, ◌++◌, ℕ, Option, Some, None, Result, Ok, Err, ⊤}
 use Rattle.std.specs.declared.alloc.AllocError.{AllocError}
-use Rattle.mum_frame.specs.declared.frame.Frame.{Frame}
-use Rattle.mum_frame.specs.declared.framer.FrameFault.{FrameFault}
+use Rattle.mum_frame.specs.declared.{frame.Frame.Frame, framer.FrameFault.FrameFault}
 use Rattle.mum_frame.specs.Stream.{FeedKeeps, NextGives}
 
 -- a call of `feed` with its piece, or of `next`, and the answer

@@ -1,8 +1,7 @@
 -- The frames of a stream, after the packet structure of the Mumble protocol documentation.
 use Rattle.std.specs.Prelude.{◌≡◌, ◌≢◌, ℕ, ◌+◌, ◌^◌, ◌<◌, ◌≤◌, ◌==◌, ◌&&◌, Bool, nat_le, List, ◌++◌, length, drop}
 use Rattle.byteorder.specs.Endian.{big_bytes, big_number}
-use Rattle.mum_frame.specs.declared.frame.TheConstants.{HEADER_LENGTH, PAYLOAD_LIMIT}
-use Rattle.mum_frame.specs.declared.frame.Frame.{Frame}
+use Rattle.mum_frame.specs.declared.frame.{TheConstants.HEADER_LENGTH, TheConstants.PAYLOAD_LIMIT, Frame.Frame}
 
 -- the type in two bytes, the payload's length in four, both big endian, and the payload
 unfoldable pub spelling_of : ℕ → List ℕ → List ℕ
@@ -24,19 +23,19 @@ named_length bytes = big_number 4 (drop 2 bytes)
 unfoldable pub kind_of : List ℕ → ℕ
 kind_of bytes = big_number 2 bytes
 
--- what stands behind the header
+-- what follows the header
 unfoldable pub payload_of : List ℕ → List ℕ
 payload_of bytes = drop HEADER_LENGTH bytes
 
--- exactly one frame, and nothing behind it
+-- exactly one frame, and nothing after it
 abbrev pub IsOneFrame : List ℕ → Type 0
 IsOneFrame bytes = (frame : Frame) × IsFrame frame × (bytes ≡ frame_spelling frame)
 
--- the same as a test of bytes: as many stand behind the header as it names, within the limit
+-- the same as a test of bytes: as many come after the header as it names, within the limit
 abbrev pub is_one_frame : List ℕ → Bool
 is_one_frame bytes = (length bytes == HEADER_LENGTH + named_length bytes) && nat_le (named_length bytes) PAYLOAD_LIMIT
 
--- a header stands there, and it names a payload above the limit
+-- a header is there, and it names a payload above the limit
 pub record TooLong (bytes : List ℕ) : Type 0 where
   pub header : HEADER_LENGTH ≤ length bytes
   pub above : PAYLOAD_LIMIT < named_length bytes

@@ -2,10 +2,8 @@
 use Rattle.std.specs.Prelude.{◌≡◌, ℕ, ◌*◌, ◌≤◌, max, List, ◌++◌, length, All, Option, Some, None, Result, Ok, Err, ⊤}
 use Rattle.std.specs.List.{flat_map}
 use Rattle.std.specs.declared.alloc.AllocError.{AllocError}
-use Rattle.mum_frame.specs.declared.frame.Frame.{Frame}
-use Rattle.mum_frame.specs.declared.framer.TheConstants.{ROOM_FACTOR, ROOM_LIMIT}
-use Rattle.mum_frame.specs.declared.framer.FrameFault.{FrameFault}
-use Rattle.mum_frame.specs.declared.framer.FrameFault.TheVariants.{FrameTooLong, OutOfMemory}
+use Rattle.mum_frame.specs.declared.{frame.Frame.Frame, framer.TheConstants.ROOM_FACTOR, framer.TheConstants.ROOM_LIMIT}
+use Rattle.mum_frame.specs.declared.framer.FrameFault.{FrameFault, TheVariants.FrameTooLong, TheVariants.OutOfMemory}
 use Rattle.mum_frame.specs.Frame.{frame_spelling, IsFrame, HasNoFrame, TooLong, named_length}
 
 -- the stream is these frames, and then what no frame within the limit begins

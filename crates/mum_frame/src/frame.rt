@@ -41,8 +41,8 @@ impl FrameView<'_> {
     }
 }
 
-/// How bytes begin: with a whole frame, with less than one, or with a header that names a payload
-/// above the limit.
+// How bytes begin: with a whole frame, with less than one, or with a header that names a payload
+// above the limit.
 #[derive(Clone, Copy, Debug)]
 pub(crate) enum FirstFrame<'a> {
     Whole(FrameView<'a>),
@@ -50,7 +50,7 @@ pub(crate) enum FirstFrame<'a> {
     AboveLimit(u32),
 }
 
-/// The frame that begins these bytes. It takes no memory and copies nothing.
+// The frame that begins these bytes. It takes no memory and copies nothing.
 pub(crate) fn first_frame(bytes: &[u8]) -> FirstFrame<'_>
     ensures { IsFirst bytes.now result }
 {

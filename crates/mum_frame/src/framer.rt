@@ -18,7 +18,7 @@ pub enum FrameFault {
     /// The next header names a payload of this many bytes, more than `PAYLOAD_LIMIT`.
     #[error("a frame names a payload of {length} bytes")]
     FrameTooLong { length: u32 },
-    /// There is no memory for the payload, or for a smaller buffer for what is behind the frame.
+    /// There is no memory for the payload, or for a smaller buffer for what is after the frame.
     #[error("out of memory")]
     OutOfMemory,
 }
@@ -51,7 +51,7 @@ impl FrameFault {
 /// The most bytes of memory that a framer holds while it keeps none of a stream: 128 KiB.
 pub const ROOM_LIMIT: usize = 0x2_0000;
 
-/// Above `ROOM_LIMIT`, the memory behind a frame that was given is at most this many times what is
+/// Above `ROOM_LIMIT`, the memory after a frame that was given is at most this many times what is
 /// still kept.
 pub const ROOM_FACTOR: usize = 4;
 
@@ -67,7 +67,7 @@ pub enum Kept {
 }
 
 /// Takes a stream in pieces of any size, and gives its frames one by one. A contract sees the bytes
-/// that are kept, those fed and not yet given, and the room that they stand in. They are in one
+/// that are kept, those fed and not yet given, and the room that they are in. They are in one
 /// buffer, from `start` on.
 #[derive(Drop)]
 pub struct Framer {

@@ -14,7 +14,7 @@ use crate::frame::{HEADER_LENGTH, PAYLOAD_LIMIT};
 use crate::framer::{ROOM_FACTOR, ROOM_LIMIT};
 use crate::kind::*;
 
-/// The numbers for which the names of types and limits stand, as the Mumble protocol documentation
+/// The numbers that the names of types and limits stand for, as the Mumble protocol documentation
 /// gives them; the limit of the room is the server's own.
 pub fn limits_and_types()
     ensures header { HEADER_LENGTH ≡ 6 }
@@ -39,7 +39,7 @@ pub fn limits_and_types()
     ensures codec_version { CODEC_VERSION ≡ 21 }
 {}
 
-/// A frame is known by its spelling, and by the front of any bytes that begin with it.
+/// A frame is known by its encoding, and by the front of any bytes that begin with it.
 pub fn a_spelling_is_of_one_frame()
     ensures one { (frame other : Frame) (rest behind : List ℕ) → IsFrame frame → IsFrame other →
         frame_spelling frame ++ rest ≡ frame_spelling other ++ behind →
@@ -88,7 +88,7 @@ pub fn frames_come_in_any_pieces()
         Leads [] calls kept → NextGives kept answer new →
         ((answer ≡ Ok None) ↔
         (Splits (bytes_fed calls) (frames_given calls) kept × ¬ TooLong kept)) }
-    // A length is refused exactly where they are all of these frames, and it stands behind them.
+    // A length is refused exactly where they are all of these frames, and it comes after them.
     ensures too_long { (calls : List Call) (kept new : List ℕ)
         (answer : Result (Option Frame) FrameFault) →
         Leads [] calls kept → NextGives kept answer new →

@@ -1,6 +1,6 @@
 //! The frames of a client's stream: a type of two bytes, a payload's length of four, and the
 //! payload. `Framer` takes the stream in pieces of any size and gives its frames one by one;
-//! `put_frame` writes one, and `whole_frame` reads one that stands alone. `kind` names the types.
+//! `put_frame` writes one, and `whole_frame` reads one that is alone. `kind` names the types.
 #![tactic(auto)]
 
 pub mod frame;

@@ -1,53 +1,15 @@
 -- The frame of a command is heard as the command, and decided as it.
-use Rattle.std.proofs.Common.{◌≡◌, ℕ, ◌==◌, ◌||◌, ◌^◌, ◌<◌, Bool, true, false, cond, List, [], ◌∷◌, drop, Option, Some, None, refl, sym, ap, subst, ◌∙◌, inl, inr, arith}
-use Rattle.std.specs.Prelude.{unwrap_or}
-use Rattle.mum_audit.specs.Decision.{asked_verdict, decided, frame_verdict, heard_verdict, takes_nothing}
-use Rattle.mum_base.specs.Codes.{reason_code}
-use Rattle.mum_base.specs.declared.number.SessionId.{SessionId}
-use Rattle.mum_base.specs.declared.outcome.Reason.{Reason}
+use Rattle.mum_heard.proofs.Common.{◌≡◌, ℕ, ◌==◌, ◌||◌, ◌^◌, ◌<◌, Bool, true, false, cond, List, [], ◌∷◌, drop, Option, Some, None, refl, sym, ap, subst, ◌∙◌, inl, inr, arith, unwrap_or, asked_verdict, decided, frame_verdict, heard_verdict, takes_nothing, reason_code, SessionId, Reason, spelled, kind_of, payload_of, spelling_of, ACL, CHANNEL_REMOVE, CHANNEL_STATE, TEXT_MESSAGE, USER_REMOVE, USER_STATE, VOICE_TARGET, kind-reads_back, payload_of-spelling, or_right, append-nil, acl, permission_query, text_message, voice_target, acl_of, permission_query_of, text_message_of, voice_target_of, authenticate, channel_remove, channel_state, user_remove, user_state, authenticate_of, channel_remove_of, channel_state_of, user_remove_of, user_state_of, own_frame, version_of, Case, case_of, first_standing, unless_ignored, is_gone, takes_no_edits, Acl, Remove, State, is_leave, Join, Kick, Leave, Query, Target, Text, action, command_heard, heard_map, login_heard, read, Machine, verdict, Ask, Asked, Tree, User, Command, Heard, Malformed, Message, TooLong, StateValue, Verdict, Ignored, CommandsAreHeardAgain, IsHeardAgain, LeavesAreHeardAgain, RequestsAreHeardAgain}
+use Rattle.mum_heard.proofs.{Asking.asked_by, Parts.acl_parts, Parts.authenticate_parts, Parts.channel_remove_parts, Parts.channel_state_parts, Parts.permission_query_parts, Parts.text_message_parts, Parts.user_remove_parts, Parts.user_state_parts, Parts.voice_target_parts, Reading.message_heard}
 use Rattle.mum_base.specs.declared.outcome.Reason.TheVariants as reasons
-use Rattle.mum_fields.specs.Table.{spelled}
-use Rattle.mum_frame.specs.Frame.{kind_of, payload_of, spelling_of}
 use Rattle.mum_frame.specs.declared.kind.TheConstants as kinds
-use Rattle.mum_frame.specs.declared.kind.TheConstants.{ACL, CHANNEL_REMOVE, CHANNEL_STATE, TEXT_MESSAGE, USER_REMOVE, USER_STATE, VOICE_TARGET}
-use Rattle.mum_frame.proofs.Headers.{kind-reads_back}
-use Rattle.mum_frame.proofs.OneFrame.{payload_of-spelling}
-use Rattle.std.proofs.lemmas.Bool.{or_right}
-use Rattle.std.proofs.lemmas.List.{append-nil}
-use Rattle.mum_msg_rule.specs.Messages.{acl, permission_query, text_message, voice_target}
-use Rattle.mum_msg_rule.specs.Parts.{acl_of, permission_query_of, text_message_of, voice_target_of}
-use Rattle.mum_msg_state.specs.Messages.{authenticate, channel_remove, channel_state, user_remove, user_state}
-use Rattle.mum_msg_state.specs.Parts.{authenticate_of, channel_remove_of, channel_state_of, user_remove_of, user_state_of}
-use Rattle.mum_owner.specs.Written.{own_frame, version_of}
 use Rattle.mum_rules_tree.specs.Asked as channels
-use Rattle.mum_rules_tree.specs.Decision.{Case, case_of, first_standing, unless_ignored}
-use Rattle.mum_rules_tree.specs.Reasons.{is_gone, takes_no_edits}
 use Rattle.mum_rules_tree.specs.Reasons as tree
 use Rattle.mum_rules_tree.specs.Verdict as tree_decision
-use Rattle.mum_rules_tree.specs.declared.message.TreeMessage.TheVariants.{Acl, Remove, State}
 use Rattle.mum_rules_user.specs.Asked as users
-use Rattle.mum_rules_user.specs.Reasons.{is_leave}
 use Rattle.mum_rules_user.specs.Reasons as ignored
 use Rattle.mum_rules_user.specs.Verdict as user_decision
-use Rattle.mum_rules_user.specs.declared.message.UserMessage.TheVariants.{Join, Kick, Leave, Query, Target, Text}
 use Rattle.mum_rules_user.specs.declared.message.UserMessage.TheVariants as about
-use Rattle.mum_session.specs.Action.{action}
-use Rattle.mum_session.specs.Heard.{command_heard, heard_map, login_heard, read}
-use Rattle.mum_session.specs.Machine.{Machine}
-use Rattle.mum_session.specs.Verdict.{verdict}
-use Rattle.mum_session.specs.declared.action.Action.TheVariants.{Ask}
-use Rattle.mum_session.specs.declared.command.Asked.{Asked}
-use Rattle.mum_session.specs.declared.command.Asked.TheVariants.{Tree, User}
-use Rattle.mum_session.specs.declared.command.Command.{Command}
-use Rattle.mum_session.specs.declared.heard.Heard.{Heard}
-use Rattle.mum_session.specs.declared.heard.Heard.TheVariants.{Malformed, Message, TooLong}
-use Rattle.mum_state.specs.State.{StateValue}
-use Rattle.mum_state.specs.declared.verdict.Verdict.{Verdict}
-use Rattle.mum_state.specs.declared.verdict.Verdict.TheVariants.{Ignored}
-use Rattle.mum_heard.specs.Again.{CommandsAreHeardAgain, IsHeardAgain, LeavesAreHeardAgain, RequestsAreHeardAgain}
-use Rattle.mum_heard.proofs.Asking.{asked_by}
-use Rattle.mum_heard.proofs.Parts.{acl_parts, authenticate_parts, channel_remove_parts, channel_state_parts, permission_query_parts, text_message_parts, user_remove_parts, user_state_parts, voice_target_parts}
-use Rattle.mum_heard.proofs.Reading.{message_heard}
 
 -- ---- the own payload is heard as the message
 

@@ -1,21 +1,5 @@
 -- How a frame asks for a command.
-use Rattle.std.proofs.Common.{◌≡◌, ◌⊎◌, ℕ, ◌==◌, ◌&&◌, Bool, true, false, cond, List, Option, Some, None, Ok, Err, ap, inl, inr}
-use Rattle.std.specs.List.{list_any}
-use Rattle.mum_base.specs.declared.number.SessionId.{SessionId}
-use Rattle.mum_base.specs.declared.outcome.Reason.TheVariants.{Gone, NotRead}
-use Rattle.mum_fields.specs.Table.{decoded}
-use Rattle.mum_frame.specs.declared.kind.TheConstants.{AUTHENTICATE, PING, UDP_TUNNEL, VERSION}
-use Rattle.mum_msg_state.specs.Messages.{ping, version}
-use Rattle.mum_session.specs.Action.{Decoded, action, after_login, bans_action, command_action, commands_after_login, ignore, login_action, other_action, ping_action, tree_or_user_action, version_action, voice_action}
-use Rattle.mum_session.specs.Heard.{command_heard, login_heard}
-use Rattle.mum_session.specs.Machine.{Machine, is_rejected, session_of}
-use Rattle.mum_session.specs.declared.action.Action.{Action}
-use Rattle.mum_session.specs.declared.action.Action.TheVariants.{Ask, Bans}
-use Rattle.mum_session.specs.declared.action.TheConstants.{BAN_LIST}
-use Rattle.mum_session.specs.declared.command.Asked.{Asked}
-use Rattle.mum_session.specs.declared.command.Command.{Command}
-use Rattle.mum_session.specs.declared.heard.Heard.{Heard}
-use Rattle.mum_session.specs.declared.heard.Heard.TheVariants.{Malformed, Message, TooLong}
+use Rattle.mum_heard.proofs.Common.{◌≡◌, ◌⊎◌, ℕ, ◌==◌, ◌&&◌, Bool, true, false, cond, List, Option, Some, None, Ok, Err, ap, inl, inr, list_any, SessionId, Gone, NotRead, decoded, AUTHENTICATE, PING, UDP_TUNNEL, VERSION, ping, version, Decoded, action, after_login, bans_action, command_action, commands_after_login, ignore, login_action, other_action, ping_action, tree_or_user_action, version_action, voice_action, command_heard, login_heard, Machine, is_rejected, session_of, Action, Ask, Bans, BAN_LIST, Asked, Command, Heard, Malformed, Message, TooLong}
 
 module _ (machine : Machine) (kind : ℕ) (payload : List ℕ) (command : Command) where
   -- the payload is heard as the command, of a login with the version of the machine

@@ -1,3 +1,4 @@
+mod Common
 pub mod Taken
 pub mod Parts
 pub mod Reading

@@ -1,10 +1,5 @@
 -- The values of a message that was made of values are these.
-use Rattle.std.proofs.Common.{◌≡◌, List, [], ◌∷◌, map, refl, ap, ◌∙◌}
-use Rattle.mum_fields.specs.Table.{Values, layout, parts}
-use Rattle.mum_msg_rule.specs.Messages.{acl, acl_group, acl_line, permission_query, target_block, text_message, voice_target}
-use Rattle.mum_msg_rule.specs.Parts.{acl_group_of, acl_line_of, acl_of, acl_with, permission_query_of, target_block_of, text_message_of, voice_target_of, voice_target_with}
-use Rattle.mum_msg_state.specs.Messages.{authenticate, channel_remove, channel_state, user_remove, user_state}
-use Rattle.mum_msg_state.specs.Parts.{authenticate_of, channel_remove_of, channel_state_of, user_remove_of, user_state_of}
+use Rattle.mum_heard.proofs.Common.{◌≡◌, List, [], ◌∷◌, map, refl, ap, ◌∙◌, Values, layout, parts, acl, acl_group, acl_line, permission_query, target_block, text_message, voice_target, acl_group_of, acl_line_of, acl_of, acl_with, permission_query_of, target_block_of, text_message_of, voice_target_of, voice_target_with, authenticate, channel_remove, channel_state, user_remove, user_state, authenticate_of, channel_remove_of, channel_state_of, user_remove_of, user_state_of}
 
 pub authenticate_parts : (values : Values (layout authenticate)) → parts authenticate (authenticate_of values) ≡ values
 unfolding authenticate_of

@@ -1,15 +1,5 @@
 -- A payload that was heard as a message is one whose own encoding is heard as this message.
-use Rattle.std.proofs.Common.{◌≡◌, ℕ, ◌≤◌, Bool, true, false, cond, List, length, Result, Ok, Err, refl, sym, ap, subst, ◌∙◌, arith}
-use Rattle.std.specs.Prelude.{nat_lt}
-use Rattle.std.proofs.lemmas.Bool.{ltb-false}
-use Rattle.mum_fields.specs.declared.message.MessageFault.{MessageFault}
-use Rattle.mum_fields.specs.Table.{Layout, Table, Values, decoded, items, layout, missing, parts, rising, spelled}
-use Rattle.mum_fields.specs.Typed.{AreTyped}
-use Rattle.mum_fields.specs.Written.{written}
-use Rattle.mum_fields.proofs.ReadBack.{read_back}
-use Rattle.mum_rules_tree.specs.declared.reason.TheConstants.{COMMAND_LIMIT}
-use Rattle.mum_session.specs.Heard.{heard_map, read, read_from}
-use Rattle.mum_session.specs.declared.heard.Heard.TheVariants.{Message, TooLong}
+use Rattle.mum_heard.proofs.Common.{◌≡◌, ℕ, ◌≤◌, Bool, true, false, cond, List, length, Result, Ok, Err, refl, sym, ap, subst, ◌∙◌, arith, nat_lt, ltb-false, MessageFault, Layout, Table, Values, decoded, items, layout, missing, parts, rising, spelled, AreTyped, written, read_back, COMMAND_LIMIT, heard_map, read, read_from, Message, TooLong}
 use Rattle.mum_heard.proofs.Taken.{all_narrow, decoded_sound}
 
 -- ---- what is heard of a payload

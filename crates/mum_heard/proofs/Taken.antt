@@ -1,34 +1,5 @@
 -- What a payload decodes to is as the types of its fields say, where its own encoding has a length.
-use Rattle.std.proofs.Common.{◌≡◌, ℕ, suc, ◌+◌, ◌*◌, ◌-◌, ◌%◌, ◌^◌, ◌<◌, ◌≤◌, ◌&&◌, ◌==◌, ltb, Bool, true, false, cond, List, [], ◌∷◌, ◌++◌, length, map, Option, Some, None, IfSome, Result, Ok, Err, refl, sym, ap, subst, ◌∙◌, arith, eq-eqb, length-append}
-use Rattle.std.specs.Prelude.{ℤ, pos, negsuc, ⊤}
-use Rattle.std.specs.Int.{w32, cast_signed}
-use Rattle.std.specs.List.{AllByRecursion}
-use Rattle.std.specs.Str.{IsUtf8, is_utf8}
-use Rattle.std.proofs.lemmas.Bool.{and_parts, eqb-true, ltb-false, ltb-true, ne_eqb, true≢false}
-use Rattle.std.proofs.lemmas.Int.{to_z_pos}
-use Rattle.std.proofs.lemmas.List.Concat.{flat_map-append}
-use Rattle.std.proofs.lemmas.List.Elements.{All-from_recursion}
-use Rattle.std.proofs.lemmas.Str.{IsUtf8-from_is_utf8}
-use Rattle.mum_fields.specs.declared.fault.FaultKind.TheVariants.{BadText}
-use Rattle.mum_fields.specs.declared.fault.FieldFault.{FieldFault}
-use Rattle.mum_fields.specs.declared.message.MessageFault.{MessageFault}
-use Rattle.mum_fields.specs.declared.shape.Kind.{Kind}
-use Rattle.mum_fields.specs.declared.shape.Kind.TheVariants.{Number, Raw, Utf8}
-use Rattle.mum_fields.specs.declared.shape.Label.{Label}
-use Rattle.mum_fields.specs.declared.shape.Label.TheVariants.{Optional, Repeated, Required, RequiredOr}
-use Rattle.mum_fields.specs.declared.shape.Scalar.{Scalar}
-use Rattle.mum_fields.specs.declared.shape.Scalar.TheVariants.{Signed32, Truth, Unsigned32, Unsigned64}
-use Rattle.mum_fields.specs.Content.{Block, Content, Fixed4, Fixed8, Varint}
-use Rattle.mum_fields.specs.Fault.{fault}
-use Rattle.mum_fields.specs.Field.{Entry}
-use Rattle.mum_fields.specs.Message.{Rule, entry_fault, every, fault_in, first_fault, last, longer, message, messages_of, newer, or_else, text, unless, value_fault}
-use Rattle.mum_fields.specs.Number.{extended, signed_32}
-use Rattle.mum_fields.specs.Payload.{Walk, at_start, fields, packed}
-use Rattle.mum_fields.specs.Table.{Blocks, Field, Layout, Nothing, One, Value, Values, all_in, decoded_by, each_message, gathered, items, missing, no_values, one_in, one_item, rising, row_items, rule_of, rules, scalar_number, unless_missing, unset, value_after, value_of, values_after, whole}
-use Rattle.mum_fields.specs.Typed.{AreTyped, IsBytes, IsOne, IsScalar, IsTyped}
-use Rattle.mum_fields.specs.Varint.{shortest}
-use Rattle.mum_fields.specs.Written.{Item, block_item, each_block, spelling, written}
-use Rattle.mum_fields.proofs.ReadBack.{Rises, rises}
+use Rattle.mum_heard.proofs.Common.{◌≡◌, ℕ, suc, ◌+◌, ◌*◌, ◌-◌, ◌%◌, ◌^◌, ◌<◌, ◌≤◌, ◌&&◌, ◌==◌, ltb, Bool, true, false, cond, List, [], ◌∷◌, ◌++◌, length, map, Option, Some, None, IfSome, Result, Ok, Err, refl, sym, ap, subst, ◌∙◌, arith, eq-eqb, length-append, ℤ, pos, negsuc, ⊤, w32, cast_signed, AllByRecursion, IsUtf8, is_utf8, and_parts, eqb-true, ltb-false, ltb-true, ne_eqb, true≢false, to_z_pos, flat_map-append, All-from_recursion, IsUtf8-from_is_utf8, BadText, FieldFault, MessageFault, Kind, Number, Raw, Utf8, Label, Optional, Repeated, Required, RequiredOr, Scalar, Signed32, Truth, Unsigned32, Unsigned64, Block, Content, Fixed4, Fixed8, Varint, fault, Entry, Rule, entry_fault, every, fault_in, first_fault, last, longer, message, messages_of, newer, or_else, text, unless, value_fault, extended, signed_32, Walk, at_start, fields, packed, Blocks, Field, Layout, Nothing, One, Value, Values, all_in, decoded_by, each_message, gathered, items, missing, no_values, one_in, one_item, rising, row_items, rule_of, rules, scalar_number, unless_missing, unset, value_after, value_of, values_after, whole, AreTyped, IsBytes, IsOne, IsScalar, IsTyped, shortest, Item, block_item, each_block, spelling, written, Rises, rises}
 
 -- ---- values as they are read
 

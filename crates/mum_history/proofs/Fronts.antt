@@ -1,20 +1,13 @@
 -- The states after the fronts of a list of edits.
 use Rattle.std.proofs.Common.{◌≡◌, ℕ, zero, suc, ◌+◌, ◌<◌, ◌≤◌, List, [], ◌∷◌, ◌++◌, length, get_or, Some, refl, sym, ap, ◌∙◌, arith, length-append}
+use Rattle.std.proofs.{lemmas.Bool.and_parts, lemmas.List.take-append-le, lemmas.Option.slice_get_read, Math.Seq.take-length}
 use Rattle.std.specs.Prelude.{IsTrue, slice_get}
 use Rattle.std.specs.List.{All}
-use Rattle.std.proofs.lemmas.Bool.{and_parts}
-use Rattle.std.proofs.lemmas.List.{take-append-le}
-use Rattle.std.proofs.lemmas.Option.{slice_get_read}
-use Rattle.std.proofs.Math.Seq.{take-length}
 use Rattle.mum_state.specs.declared.edit.Edit.{Edit}
-use Rattle.mum_state.specs.After.{all_fit, at, led_to}
-use Rattle.mum_state.specs.Applied.{applied}
-use Rattle.mum_state.specs.Fits.{fits}
-use Rattle.mum_state.specs.State.{StateValue}
-use Rattle.mum_history.specs.Kept.{IsKept}
-use Rattle.mum_history.specs.View.{IsViewOf, ViewValue}
+use Rattle.mum_state.specs.{After.all_fit, After.at, After.led_to, Applied.applied, Fits.fits, State.StateValue}
+use Rattle.mum_history.specs.{Kept.IsKept, View.IsViewOf, View.ViewValue}
 
--- ---- each edit fits where it stands, and leads on
+-- ---- each edit fits in its place, and leads on
 
 pub edit_fits : (opening : StateValue) (edits : List Edit) (i : ℕ) (edit : Edit) → IsTrue (all_fit opening edits) → slice_get edits i ≡ Some edit
     → IsTrue (fits (at opening edits i) edit)

@@ -1,8 +1,7 @@
 -- The edits that were accepted from one state on.
 use Rattle.std.specs.Prelude.{ℕ, List, [], ◌∷◌, ◌++◌}
 use Rattle.mum_state.specs.declared.edit.Edit.{Edit}
-use Rattle.mum_state.specs.After.{at, led_to}
-use Rattle.mum_state.specs.State.{StateValue}
+use Rattle.mum_state.specs.{After.at, After.led_to, State.StateValue}
 
 pub record HistoryValue : Type 0 where
   -- the state before all of them

@@ -1,8 +1,7 @@
--- A state that reads behind a history.
+-- A state that lags behind a history.
 use Rattle.std.specs.Prelude.{◌≡◌, ℕ, ◌≤◌, List, length}
 use Rattle.mum_state.specs.declared.edit.Edit.{Edit}
-use Rattle.mum_state.specs.After.{at}
-use Rattle.mum_state.specs.State.{StateValue}
+use Rattle.mum_state.specs.{After.at, State.StateValue}
 
 pub record ViewValue : Type 0 where
   pub state : StateValue

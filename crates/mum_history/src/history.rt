@@ -35,7 +35,7 @@ impl Model for History {
     ghost invariant = { λ h. IsKept h.opening h.accepted.items h.published h.twin };
 }
 
-/// A copy of a state, and a spare one of that.
+// A copy of a state, and a spare one of that.
 fn twin_of(alloc: Global, state: &State) -> Result<Twin, OutOfMemory>
     ensures { IfOk result (λ twin. twin ≡ state.now) }
 {

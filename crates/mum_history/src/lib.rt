@@ -1,7 +1,7 @@
 //! The edits that were accepted from one state on, and the states to which they lead. A `Twin` is a state
 //! with a spare one that is equal to it, so that an edit is made without a copy of a state. A `History`
 //! keeps the list, with the twin after all of it; it is an `EditList`. A `View` is a state after the first of the edits,
-//! up to a revision, for whoever reads behind.
+//! up to a revision, for whoever lags behind.
 #![tactic(auto)]
 
 mod edit_list;

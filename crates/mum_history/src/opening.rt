@@ -9,7 +9,7 @@ use mum_state::{Edit, State};
 use std::alloc::Global;
 use std::mem::drop;
 
-/// The state after edits of which each fits where it stands, from this one on.
+/// The state after edits of which each fits in its place, from this one on.
 #[tactic(auto, using(crate::proofs::Fronts::read_fits, crate::proofs::Fronts::read_leads))]
 pub fn state_from(mut state: State, edits: &[Edit]) -> Result<State, OutOfMemory>
     requires { IsTrue (all_fit state edits.now) }
@@ -24,7 +24,7 @@ pub fn state_from(mut state: State, edits: &[Edit]) -> Result<State, OutOfMemory
     Ok(state)
 }
 
-/// The state after edits of which each fits where it stands, from the empty state on.
+/// The state after edits of which each fits in its place, from the empty state on.
 pub fn state_after(alloc: Global, edits: &[Edit]) -> Result<State, OutOfMemory>
     requires { IsTrue (all_fit empty_state edits.now) }
     ensures { IfOk result (λ state. state ≡ after edits.now) }

@@ -35,7 +35,7 @@ impl Model for Twin {
     ghost invariant = { λ t. IfSome t.spare (λ state. state ≡ t.current) };
 }
 
-/// The state to which an edit leads that fits.
+// The state to which an edit leads that fits.
 fn after_edit(mut state: State, edit: &Edit) -> Result<State, OutOfMemory>
     requires { IsTrue (fits state edit.now) }
     ensures { IfOk result (λ next. next ≡ applied state edit.now) }
@@ -49,8 +49,8 @@ fn after_edit(mut state: State, edit: &Edit) -> Result<State, OutOfMemory>
     }
 }
 
-/// The state to which an edit leads that fits; none where the edit is not known, or where memory ran
-/// out.
+// The state to which an edit leads that fits; none where the edit is not known, or where memory ran
+// out.
 fn brought_up(state: State, edit: Option<&Edit>) -> Option<State>
     requires { ForSome (option_copied edit) (λ known. IsTrue (fits state known)) }
     ensures { IfSome result (λ next. option_map (applied state) (option_copied edit.entry) ≡ Some next) }
@@ -89,7 +89,7 @@ impl Twin {
         &self.current
     }
 
-    /// The spare state, or else a copy of the current one.
+    // The spare state, or else a copy of the current one.
     fn take_spare(&mut self) -> Result<State, OutOfMemory>
         ensures state { IfOk result (λ state. state ≡ self.old) }
         ensures same { self.new ≡ self.old }

@@ -12,7 +12,7 @@ use std::alloc::Global;
 use std::marker::Model;
 use std::mem::{drop, replace};
 
-/// A state that reads behind a history, at a revision: the number of edits that it has.
+/// A state that lags behind a history, at a revision: the number of edits that it has.
 #[derive(Drop)]
 pub struct View {
     state: State,
@@ -28,7 +28,7 @@ impl Model for View {
 }
 
 impl View {
-    /// A view of the opening of a history, before all edits.
+    // A view of the opening of a history, before all edits.
     fn of(alloc: Global, opening: &State) -> Result<View, OutOfMemory>
         ensures { IfOk result (IsViewOf opening.now []) }
     {
@@ -45,7 +45,7 @@ impl View {
         &self.state
     }
 
-    /// Goes on by one edit. Where memory runs out it is where it was.
+    // Goes on by one edit. Where memory runs out it is where it was.
     #[tactic(auto, using(crate::proofs::Fronts::read_fits, crate::proofs::Fronts::read_leads))]
     fn go_on(&mut self, history: &History) -> Result<(), OutOfMemory>
         requires view { IsViewOf history.now.opening history.now.accepted self.old }
@@ -60,7 +60,7 @@ impl View {
         Ok(())
     }
 
-    /// Goes back to the opening where the revision is below its own.
+    // Goes back to the opening where the revision is below its own.
     fn go_back(
         &mut self,
         alloc: Global,
@@ -103,7 +103,7 @@ impl View {
     }
 }
 
-/// As many views of an opening.
+// As many views of an opening.
 fn opening_views(alloc: Global, count: u8, opening: &State) -> Result<Vec<View>, OutOfMemory>
     ensures each { IfOk result (λ views. All (IsViewOf opening.now []) views.items) }
     ensures count { IfOk result (λ views. length views.items ≡ count) }

@@ -1,16 +1,9 @@
 -- What follows of counts: a count that rose has risen later, no call makes one fall, and where one is greater the
 -- answer was the one that counts it.
-use Rattle.std.proofs.Common.{◌≡◌, ℕ, zero, suc, ◌<◌, ◌≤◌, ◌⊎◌, inl, inr, refl, sym, ap, subst, arith, le_trans, ⊎_elim}
-use Rattle.mum_io.specs.Counts.{Counts, CountsEnd, CountsFault, CountsStall, NoneFalls, Rose}
-use Rattle.mum_io.specs.Door.{AcceptCounts, OpenCounts}
-use Rattle.mum_io.specs.Link.{PollReadCounts, PollWriteCounts}
-use Rattle.mum_io.specs.declared.door.Accept.{Accept}
+use Rattle.mum_io.proofs.Common.{◌≡◌, ℕ, zero, suc, ◌<◌, ◌≤◌, ◌⊎◌, inl, inr, refl, sym, ap, subst, arith, le_trans, ⊎_elim, Counts, CountsEnd, CountsFault, CountsStall, NoneFalls, Rose, AcceptCounts, OpenCounts, PollReadCounts, PollWriteCounts, Accept, DoorOpen, PollRead, PollWrite}
 use Rattle.mum_io.specs.declared.door.Accept.TheVariants as accepted
-use Rattle.mum_io.specs.declared.door.DoorOpen.{DoorOpen}
 use Rattle.mum_io.specs.declared.door.DoorOpen.TheVariants as opening
-use Rattle.mum_io.specs.declared.link.PollRead.{PollRead}
 use Rattle.mum_io.specs.declared.link.PollRead.TheVariants as read
-use Rattle.mum_io.specs.declared.link.PollWrite.{PollWrite}
 use Rattle.mum_io.specs.declared.link.PollWrite.TheVariants as written
 
 -- a number that does not fall rises or stays
@@ -94,7 +87,7 @@ AcceptCounts-none_falls accepted.NotYet old new counts = CountsStall-none_falls 
 AcceptCounts-none_falls accepted.End old new counts = CountsEnd-none_falls old new counts
 AcceptCounts-none_falls accepted.Failed old new counts = CountsFault-none_falls old new counts
 
--- ---- a count that is greater shows the answer: none is hidden behind another
+-- ---- a count that is greater shows the answer: none is hidden by another
 
 no_less : {P : Type 0} (old new : ℕ) → new ≡ old → old < new → P
 no_less old new same less = absurd (omega arith)

@@ -1,3 +1,5 @@
+mod Common
+pub mod Public
 pub mod CountLemmas
 pub mod MemLinkLemmas
 pub mod MemoryLemmas

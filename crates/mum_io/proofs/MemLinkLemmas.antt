@@ -1,9 +1,5 @@
 -- What a read from a link in memory leaves of the bytes.
-use Rattle.std.proofs.Common.{◌≡◌, ℕ, cond, List, [], ◌∷◌, ◌++◌, length, refl, sym, ap, ◌∙◌, arith, append_assoc}
-use Rattle.std.proofs.lemmas.Bool.{ne_eqb}
-use Rattle.mum_io.specs.MemLink.{bytes_of, due, with_rest}
-use Rattle.mum_io.specs.declared.memory.link.LinkEvent.{LinkEvent}
-use Rattle.mum_io.specs.declared.memory.link.LinkEvent.TheVariants.{Piece, NotYet, Fail, End}
+use Rattle.mum_io.proofs.Common.{◌≡◌, ℕ, cond, List, [], ◌∷◌, ◌++◌, length, refl, sym, ap, ◌∙◌, arith, append_assoc, ne_eqb, bytes_of, due, with_rest, LinkEvent, Piece, NotYet, Fail, End}
 
 -- the rest of a piece comes before the bytes of the events
 pub bytes_of-with_rest : (rest : List ℕ) (events : List LinkEvent) → bytes_of (with_rest rest events) ≡ rest ++ bytes_of events

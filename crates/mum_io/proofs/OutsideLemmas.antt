@@ -1,10 +1,5 @@
 -- What several writes do together.
-use Rattle.std.proofs.Common.{ℕ, ◌+◌, List, ◌++◌, length, take, drop, arith, length-append, subst, sym}
-use Rattle.std.proofs.Math.Seq.{take-append-add, take-add, take-length}
-use Rattle.std.proofs.lemmas.List.{take-append-le}
-use Rattle.std.specs.Prelude.{Option}
-use Rattle.std.proofs.KnownBytes.{Appends-trans}
-use Rattle.mum_io.specs.Outside.{Appends, AppendsFront}
+use Rattle.mum_io.proofs.Common.{ℕ, ◌+◌, List, ◌++◌, length, take, drop, arith, length-append, subst, sym, take-append-add, take-add, take-length, take-append-le, Option, Appends-trans, Appends, AppendsFront}
 pub use Rattle.std.proofs.KnownBytes.{Appends-nil, Appends-trans, Appends-kept, Consumes-nil, Consumes-trans, Consumes-kept, Keeps-refl, Keeps-trans}
 
 -- the first done bytes, and then n more of the rest
@@ -21,7 +16,7 @@ AppendsFront-behind a b c xs ys first (n, within, more) = (
   subst (Appends a c) (sym (take-append-add xs ys n)) (Appends-trans a b c xs (take n ys) first more),
 )
 
--- a front of xs is a front of what goes on behind xs
+-- a front of xs is a front of what goes on after xs
 pub AppendsFront-longer : (a b : Option (List ℕ)) (xs ys : List ℕ) → AppendsFront a b xs → AppendsFront a b (xs ++ ys)
 AppendsFront-longer a b xs ys (n, within, front) =
     (n, omega (arith, length-append xs ys), subst (Appends a b) (sym (take-append-le n xs ys within)) front)

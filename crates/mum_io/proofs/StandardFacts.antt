@@ -1,16 +1,8 @@
 -- Worked rows of the definitions of the outside in memory.
-use Rattle.std.proofs.Common.{◌≡◌, ℕ, true, List, [], ◌∷◌, refl}
-use Rattle.mum_io.specs.MemClock.{ClockState, after_now, new_clock}
-use Rattle.mum_io.specs.MemDoor.{accept_answer, events_behind}
-use Rattle.mum_io.specs.MemLink.{LinkState, after_event, after_poll_read, bytes_of, due, poll_read_answer, read_answer}
-use Rattle.mum_io.specs.declared.door.Accept.{Accept}
+use Rattle.mum_io.proofs.Common.{◌≡◌, ℕ, true, List, [], ◌∷◌, refl, ClockState, after_now, new_clock, accept_answer, events_behind, LinkState, after_event, after_poll_read, bytes_of, due, poll_read_answer, read_answer, Accept, PollRead, DoorEvent, LinkEvent, Piece, NotYet, Fail, End}
 use Rattle.mum_io.specs.declared.door.Accept.TheVariants as accepted
-use Rattle.mum_io.specs.declared.link.PollRead.{PollRead}
 use Rattle.mum_io.specs.declared.link.PollRead.TheVariants as read
-use Rattle.mum_io.specs.declared.memory.door.DoorEvent.{DoorEvent}
 use Rattle.mum_io.specs.declared.memory.door.DoorEvent.TheVariants as asked
-use Rattle.mum_io.specs.declared.memory.link.LinkEvent.{LinkEvent}
-use Rattle.mum_io.specs.declared.memory.link.LinkEvent.TheVariants.{Piece, NotYet, Fail, End}
 
 -- what reads answer, one after the other, into slices of these lengths
 abbrev reads : List ℕ → List LinkEvent → List PollRead
@@ -21,11 +13,11 @@ reads (room ∷ rooms) events = read_answer room (due events) ∷ reads rooms (a
 pieces_come_in_parts : reads (2 ∷ 2 ∷ 2 ∷ 2 ∷ []) (Piece (7 ∷ 8 ∷ 9 ∷ []) ∷ NotYet ∷ Piece (5 ∷ []) ∷ []) ≡ read.Got 2 ∷ read.Got 1 ∷ read.NotYet ∷ read.Got 1 ∷ []
 pieces_come_in_parts = refl
 
--- an empty piece is passed over, and behind the last event is the end
+-- an empty piece is passed over, and after the last event is the end
 empty_pieces_answer_nothing : reads (4 ∷ 4 ∷ 4 ∷ []) (Piece [] ∷ Fail ∷ Piece [] ∷ []) ≡ read.Failed ∷ read.End ∷ read.End ∷ []
 empty_pieces_answer_nothing = refl
 
--- no event comes behind an end
+-- no event comes after an end
 an_end_lasts : reads (4 ∷ 4 ∷ []) (End ∷ Piece (5 ∷ []) ∷ []) ≡ read.End ∷ read.End ∷ []
 an_end_lasts = refl
 

@@ -1,7 +1,5 @@
 -- What the reads of a whole read took together.
-use Rattle.std.proofs.Common.{ℕ, ◌<◌, List, ◌++◌, length, inl, inr, ap, ◌∙◌, append-nil, sym}
-use Rattle.std.specs.Prelude.{Option, None, Some, IfSome, Result, Ok, Err, OnErr}
-use Rattle.mum_io.specs.Outside.{Consumes, IsAtEnd, IsAllOrLonger}
+use Rattle.mum_io.proofs.Common.{ℕ, ◌<◌, List, ◌++◌, length, inl, inr, ap, ◌∙◌, append-nil, sym, Option, None, Some, IfSome, Result, Ok, Err, OnErr, Consumes, IsAtEnd, IsAllOrLonger}
 
 -- the source is at its end, so all was taken
 pub IsAllOrLonger-at_end : (limit : ℕ) (a b : Option (List ℕ)) (bytes : List ℕ) → Consumes a b bytes → IsAtEnd b

@@ -2,8 +2,7 @@
 -- how many connections it gave.
 use Rattle.std.specs.Prelude.{ℕ, ◌≡◌, List, Option, IfSome}
 use Rattle.mum_io.specs.Counts.{Counts, CountsEnd, CountsFault, CountsStall, next_count}
-use Rattle.mum_io.specs.declared.door.DoorOpen.{DoorOpen}
-use Rattle.mum_io.specs.declared.door.DoorOpen.TheVariants.{Opened, Failed}
+use Rattle.mum_io.specs.declared.door.DoorOpen.{DoorOpen, TheVariants.Opened, TheVariants.Failed}
 use Rattle.mum_io.specs.declared.door.Accept.{Accept}
 use Rattle.mum_io.specs.declared.door.Accept.TheVariants as accepted
 

@@ -1,9 +1,8 @@
 -- What the calls on a link answer: the count that shows the cause of each answer, and the bytes that went over it.
 use Rattle.std.specs.Prelude.{ℕ, ◌≡◌, ◌≤◌, Bool, List, length, take, Option}
 use Rattle.mum_io.specs.Counts.{Counts, CountsEnd, CountsFault, CountsStall}
-use Rattle.mum_io.specs.declared.link.PollRead.{PollRead}
+use Rattle.mum_io.specs.declared.link.{PollRead.PollRead, PollWrite.PollWrite}
 use Rattle.mum_io.specs.declared.link.PollRead.TheVariants.{Got, End, NotYet, Failed}
-use Rattle.mum_io.specs.declared.link.PollWrite.{PollWrite}
 use Rattle.mum_io.specs.declared.link.PollWrite.TheVariants as written
 pub use Rattle.std.specs.Io.KnownBytes.{Appends, Consumes, IsAtEnd, Keeps}
 

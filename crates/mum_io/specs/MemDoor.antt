@@ -1,14 +1,11 @@
 -- A door in memory: what it has, what its calls answer, and what they leave.
 use Rattle.std.specs.Prelude.{ℕ, Bool, List, [], ◌∷◌, Option, Some, None, if◌then◌else◌}
-use Rattle.mum_io.specs.Counts.{Counts, next_count, no_counts}
-use Rattle.mum_io.specs.Door.{DoorFacts, given_after}
+use Rattle.mum_io.specs.{Counts.Counts, Counts.next_count, Counts.no_counts, Door.DoorFacts, Door.given_after}
 use Rattle.mum_io.specs.MemLink.{LinkState}
-use Rattle.mum_io.specs.declared.door.Accept.{Accept}
-use Rattle.mum_io.specs.declared.door.Accept.TheVariants as accepted
-use Rattle.mum_io.specs.declared.door.DoorOpen.{DoorOpen}
-use Rattle.mum_io.specs.declared.door.DoorOpen.TheVariants as opening
-use Rattle.mum_io.specs.declared.memory.door.DoorEvent.{DoorEvent}
+use Rattle.mum_io.specs.declared.{door.Accept.Accept, door.DoorOpen.DoorOpen, memory.door.DoorEvent.DoorEvent}
 use Rattle.mum_io.specs.declared.memory.door.DoorEvent.TheVariants.{Conn, NotYet, Fail}
+use Rattle.mum_io.specs.declared.door.Accept.TheVariants as accepted
+use Rattle.mum_io.specs.declared.door.DoorOpen.TheVariants as opening
 
 pub record DoorState : Type 0 where
   pub events : List DoorEvent
@@ -22,7 +19,8 @@ pub record DoorState : Type 0 where
   pub starved : ℕ
 
 abbrev pub new_door : List DoorEvent → Bool → DoorState
-new_door events opens = record { events = events; opens = opens; opened_at = None; counts = no_counts; given = 0; starved = 0 }
+new_door events opens =
+    record { events = events; opens = opens; opened_at = None; counts = no_counts; given = 0; starved = 0 }
 
 -- all is known of a door in memory
 abbrev pub door_facts : DoorState → DoorFacts

@@ -1,14 +1,11 @@
 -- A link in memory: what it has, what its reads and writes answer, and what they leave.
 use Rattle.std.specs.Prelude.{ℕ, ◌==◌, ◌||◌, Bool, false, List, [], ◌∷◌, ◌++◌, length, min, drop, Some, if◌then◌else◌}
 use Rattle.mum_io.specs.Calls.{CallNumbers, after_call, before_calls, next_fails}
-use Rattle.mum_io.specs.Counts.{Counts, next_count, no_counts}
-use Rattle.mum_io.specs.Link.{LinkFacts}
-use Rattle.mum_io.specs.declared.link.PollRead.{PollRead}
-use Rattle.mum_io.specs.declared.link.PollRead.TheVariants as read
-use Rattle.mum_io.specs.declared.link.PollWrite.{PollWrite}
-use Rattle.mum_io.specs.declared.link.PollWrite.TheVariants as written
-use Rattle.mum_io.specs.declared.memory.link.LinkEvent.{LinkEvent}
+use Rattle.mum_io.specs.{Counts.Counts, Counts.next_count, Counts.no_counts, Link.LinkFacts}
+use Rattle.mum_io.specs.declared.{link.PollRead.PollRead, link.PollWrite.PollWrite, memory.link.LinkEvent.LinkEvent}
 use Rattle.mum_io.specs.declared.memory.link.LinkEvent.TheVariants.{Piece, NotYet, Fail, End}
+use Rattle.mum_io.specs.declared.link.PollRead.TheVariants as read
+use Rattle.mum_io.specs.declared.link.PollWrite.TheVariants as written
 
 pub record LinkState : Type 0 where
   -- what is to come of the peer; the first piece is the rest of one that was given in part
@@ -51,7 +48,7 @@ link_facts link = record {
   is_shut = link.is_shut;
 }
 
--- the rest of a piece, if there is one, and the events behind it
+-- the rest of a piece, if there is one, and the events after it
 abbrev pub with_rest : List ℕ → List LinkEvent → List LinkEvent
 with_rest [] events = events
 with_rest (byte ∷ rest) events = Piece (byte ∷ rest) ∷ events
@@ -72,7 +69,7 @@ read_answer room (NotYet ∷ events) = read.NotYet
 read_answer room (Fail ∷ events) = read.Failed
 read_answer room (End ∷ events) = read.End
 
--- the events that it leaves; none comes behind an end
+-- the events that it leaves; none comes after an end
 abbrev pub after_event : ℕ → List LinkEvent → List LinkEvent
 after_event room [] = []
 after_event room (Piece bytes ∷ events) = with_rest (drop (min room (length bytes)) bytes) events
@@ -103,7 +100,8 @@ refuses link = next_fails link.writes || link.is_shut
 
 -- a write that failed and is not one of these ran out of memory; none finds the link not ready
 abbrev pub after_poll_write : LinkState → List ℕ → PollWrite → LinkState
-after_poll_write link piece (written.Took n) = record link { written = link.written ++ piece; writes = after_call link.writes }
+after_poll_write link piece (written.Took n) =
+    record link { written = link.written ++ piece; writes = after_call link.writes }
 after_poll_write link piece written.NotYet = link
 after_poll_write link piece written.Failed = record link {
   writes = after_call link.writes;

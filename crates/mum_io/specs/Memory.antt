@@ -1,11 +1,8 @@
 -- What a source and a sink in memory have, and what a read and a write leave.
 use Rattle.std.specs.Prelude.{ℕ, List, ◌++◌, drop, if◌then◌else◌}
-use Rattle.mum_io.specs.Calls.{CallNumbers, after_call, next_fails}
-use Rattle.mum_io.specs.Counts.{next_count}
-use Rattle.mum_io.specs.declared.source.ReadEnd.{ReadEnd}
-use Rattle.mum_io.specs.declared.source.ReadEnd.TheVariants.{Got, End, Failed}
-use Rattle.mum_io.specs.declared.sink.WriteEnd.{WriteEnd}
-use Rattle.mum_io.specs.declared.sink.WriteEnd.TheVariants.{Took, Failed as WriteFailed}
+use Rattle.mum_io.specs.{Calls.CallNumbers, Calls.after_call, Calls.next_fails, Counts.next_count}
+use Rattle.mum_io.specs.declared.source.ReadEnd.{ReadEnd, TheVariants.Got, TheVariants.End, TheVariants.Failed}
+use Rattle.mum_io.specs.declared.sink.WriteEnd.{WriteEnd, TheVariants.Took, TheVariants.Failed as WriteFailed}
 
 pub record SourceState : Type 0 where
   pub left : List ℕ

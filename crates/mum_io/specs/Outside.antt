@@ -1,11 +1,8 @@
--- What comes in from the outside and what goes out to it, where it is told, and what counts of faults say.
+-- What comes in from the outside and what goes out to it, where it is reported, and what counts of faults say.
 use Rattle.std.specs.Prelude.{ℕ, ◌≡◌, ◌<◌, ◌≤◌, ◌⊎◌, List, ◌++◌, length, take, Option, Result, Ok, Err}
-use Rattle.mum_io.specs.declared.source.ReadEnd.{ReadEnd}
-use Rattle.mum_io.specs.declared.source.ReadEnd.TheVariants.{Got, End, Failed}
-use Rattle.mum_io.specs.declared.sink.WriteEnd.{WriteEnd}
-use Rattle.mum_io.specs.declared.sink.WriteEnd.TheVariants.{Took, Failed as WriteFailed}
-use Rattle.mum_io.specs.declared.whole.ReadFault.{ReadFault}
-use Rattle.mum_io.specs.declared.whole.ReadFault.TheVariants.{Failed as ReadFailed, OutOfMemory}
+use Rattle.mum_io.specs.declared.source.ReadEnd.{ReadEnd, TheVariants.Got, TheVariants.End, TheVariants.Failed}
+use Rattle.mum_io.specs.declared.sink.WriteEnd.{WriteEnd, TheVariants.Took, TheVariants.Failed as WriteFailed}
+use Rattle.mum_io.specs.declared.whole.ReadFault.{ReadFault, TheVariants.Failed as ReadFailed, TheVariants.OutOfMemory}
 use Rattle.mum_io.specs.declared.whole.WriteFault.{WriteFault}
 pub use Rattle.mum_io.specs.Counts.{Rose}
 pub use Rattle.std.specs.Io.KnownBytes.{Appends, Consumes, IsAtEnd, Keeps}
@@ -21,7 +18,7 @@ abbrev pub WriteCounts : WriteEnd → ℕ → ℕ → Type 0
 WriteCounts (Took n) old new = new ≡ old
 WriteCounts WriteFailed old new = Rose old new
 
--- the same of reads until an answer: a failed read is told as one, and no other answer hides one
+-- the same of reads until an answer: a failed read is reported as one, and no other answer hides one
 abbrev pub ReadsCount : {A : Type 0} → Result A ReadFault → ℕ → ℕ → Type 0
 ReadsCount (Ok bytes) old new = new ≡ old
 ReadsCount (Err ReadFailed) old new = Rose old new

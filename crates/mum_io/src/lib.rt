@@ -1,6 +1,6 @@
 //! The outside, as the server sees it: sources and sinks of bytes, links to peers, doors that give them, and
 //! clocks. Each is a trait whose answers have their causes in counts, with an implementation in memory. Beside
-//! them stand sources and sinks over readers and writers, and whole reads and writes.
+//! them are sources and sinks over readers and writers, and whole reads and writes.
 #![tactic(auto)]
 
 pub mod calls;

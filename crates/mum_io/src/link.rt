@@ -6,7 +6,7 @@ ghost use Rattle.mum_io.specs.Link.{Keeps, LinkFacts, PollReadCounts, PollReadLe
 /// How a read from a link ended.
 #[derive(Clone, Copy, Debug, PartialEq, Eq)]
 pub enum PollRead {
-    /// This many bytes stand at the front of the slice, at least one and at most its length.
+    /// This many bytes are at the front of the slice, at least one and at most its length.
     Got(usize),
     /// The peer sends no more, and the count of ends rose.
     End,
@@ -42,7 +42,7 @@ pub trait Link: Drop {
         ensures address { (facts self.new).address ≡ (facts self.old).address }
         ensures is_shut { (facts self.new).is_shut ≡ (facts self.old).is_shut };
 
-    /// Writes a front of the piece behind what was written before.
+    /// Writes a front of the piece after what was written before.
     fn poll_write(&mut self, piece: &[u8]) -> PollWrite
         requires { 0 < length piece.now }
         ensures counts { PollWriteCounts result (facts self.old).counts (facts self.new).counts }

@@ -14,13 +14,13 @@ pub enum WriteEnd {
 
 /// A sink of bytes.
 pub trait Sink {
-    /// How many writes have failed. The count stands still at its last value, `u64::MAX`.
+    /// How many writes have failed. The count stays at its last value, `u64::MAX`.
     ghost faults: { Self → ℕ };
 
-    /// The bytes that were written, where the sink tells them. Once told, they go on being told.
+    /// The bytes that were written, where the sink reports them. From then on it always does.
     ghost written: { Self → Option (List ℕ) };
 
-    /// Writes a front of the piece behind what was written before.
+    /// Writes a front of the piece after what was written before.
     fn write(&mut self, piece: &[u8]) -> WriteEnd
         requires { 0 < length piece.now }
         ensures counts { WriteCounts result (faults self.old) (faults self.new) }

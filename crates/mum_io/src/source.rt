@@ -6,7 +6,7 @@ ghost use Rattle.mum_io.specs.Outside.{ReadCounts, ReadLeaves};
 /// How a read ended.
 #[derive(Clone, Copy, Debug, PartialEq, Eq)]
 pub enum ReadEnd {
-    /// This many bytes stand at the front of the slice, at least one and at most its length.
+    /// This many bytes are at the front of the slice, at least one and at most its length.
     Got(usize),
     /// No byte is left.
     End,
@@ -16,10 +16,10 @@ pub enum ReadEnd {
 
 /// A source of bytes.
 pub trait Source {
-    /// How many reads have failed. The count stands still at its last value, `u64::MAX`.
+    /// How many reads have failed. The count stays at its last value, `u64::MAX`.
     ghost faults: { Self → ℕ };
 
-    /// The bytes that are left, where the source tells them. Once told, they go on being told.
+    /// The bytes that are left, where the source reports them. From then on it always does.
     ghost left: { Self → Option (List ℕ) };
 
     /// Takes the first bytes that are left to the front of the slice.

@@ -1,25 +1,6 @@
 -- No connection closes twice: neither in one worker nor in two.
-use Rattle.std.proofs.Common.{◌≡◌, ◌≢◌, ◌∙◌, ℕ, suc, ◌+◌, ◌<◌, ◌≤◌, ◌==◌, Bool, true, false, cond, List, [], ◌∷◌, ◌++◌, filter, length, map, Some, refl, ap, sym, subst, arith}
-use Rattle.std.specs.List.{All, AllByRecursion, AllPairs, AllZip, filter_map, flat_map}
-use Rattle.std.proofs.lemmas.Bool.{eq-eqb, eqb-true, true≢false}
-use Rattle.std.proofs.lemmas.List.Elements.{All-cons, All-head, All-nil, All-tail, filter_map-append}
-use Rattle.std.proofs.lemmas.List.Kept.{AllPairs-cons}
-use Rattle.mum_audit.specs.Legal.{closed_by}
-use Rattle.mum_crew.specs.Turns.{TurnsLead, TurnsTo}
-use Rattle.mum_crew.specs.declared.role.Turn.{Turn}
-use Rattle.mum_io.specs.Link.{LinkFacts}
-use Rattle.mum_port.specs.Facts.{PortFacts}
-use Rattle.mum_published.specs.Facts.{Opening, PassFacts}
-use Rattle.mum_record.specs.declared.journal.WorkerEntry.{WorkerEntry}
-use Rattle.mum_record.specs.declared.journal.WorkerEntry.TheVariants.{Closed, Voice}
-use Rattle.mum_serve.specs.Journals.{entries_of}
-use Rattle.mum_serve.specs.Opened.{AreOpenedFrom, fresh_pass}
-use Rattle.mum_worker.specs.Facts.{WorkerFacts, is_of}
-use Rattle.mum_worker.specs.Intake.{worker_of}
-use Rattle.mum_worker.specs.Opening.{HasOpened}
-use Rattle.mum_worker.specs.Turning.{WorkerTurned}
-use Rattle.mum_worker_laws.specs.Closings.{is_closing_of, is_open_of}
-use Rattle.mum_worker_laws.specs.Lives.{IsAbove, IsBelow, IsOfWorker, count, ports_taken}
+use Rattle.mum_journal_laws.proofs.Common.{◌≡◌, ◌≢◌, ◌∙◌, ℕ, suc, ◌+◌, ◌<◌, ◌≤◌, ◌==◌, Bool, true, false, cond, List, [], ◌∷◌, ◌++◌, filter, length, map, Some, refl, ap, sym, subst, arith, All, AllByRecursion, AllPairs, AllZip, filter_map, flat_map, eq-eqb, eqb-true, true≢false, All-cons, All-head, All-nil, All-tail, filter_map-append, AllPairs-cons, closed_by, TurnsLead, TurnsTo, Turn, LinkFacts, PortFacts, Opening, PassFacts, WorkerEntry, Closed, Voice, entries_of, AreOpenedFrom, fresh_pass, WorkerFacts, worker_of, HasOpened, WorkerTurned, is_closing_of, is_open_of, IsAbove, IsBelow, IsOfWorker, count, ports_taken}
+use Rattle.mum_worker.specs.Facts.{is_of}
 
 -- ---- how often a number is there
 

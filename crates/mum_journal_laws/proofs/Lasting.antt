@@ -1,25 +1,5 @@
 -- An accepted login of a connection is its login from then on.
-use Rattle.std.proofs.Common.{◌≡◌, ◌∙◌, ℕ, ◌==◌, Bool, false, cond, List, [], ◌∷◌, ◌++◌, Option, Some, None, refl, ap, sym}
-use Rattle.std.specs.List.{AllByRecursion}
-use Rattle.std.proofs.lemmas.Bool.{eq-eqb, ne_eqb}
-use Rattle.std.proofs.lemmas.List.Elements.{All-from_recursion}
-use Rattle.mum_audit.specs.Past.{with_login}
-use Rattle.mum_base.specs.declared.number.SessionId.{SessionId}
-use Rattle.mum_base.specs.declared.reply.ReplyEnd.{ReplyEnd}
-use Rattle.mum_base.specs.declared.reply.ReplyEnd.TheVariants.{Decided, Joined, Rejected}
-use Rattle.mum_owner.specs.Decided.{with_command}
-use Rattle.mum_io.specs.Door.{DoorFacts}
-use Rattle.mum_io.specs.Link.{LinkFacts}
-use Rattle.mum_published.specs.Calls.{appended, state_of}
-use Rattle.mum_published.specs.Facts.{Opening}
-use Rattle.mum_published.specs.Rolls.{login_of}
-use Rattle.mum_serve_laws.specs.Decisions.{decisions, logins_decided}
-use Rattle.mum_session.specs.Reply.{reply_end}
-use Rattle.mum_session.specs.Verdict.{verdict}
-use Rattle.mum_session.specs.declared.command.Command.{Command}
-use Rattle.mum_state.specs.declared.edit.Edit.{Edit}
-use Rattle.mum_step_laws.specs.OwnerTurns.{Decision}
-use Rattle.mum_journal_laws.specs.Following.{AreAnswered, AreForTheirLogins, Logins, LoginsLast, logins_after, session_in, with_login_of}
+use Rattle.mum_journal_laws.proofs.Common.{◌≡◌, ◌∙◌, ℕ, ◌==◌, Bool, false, cond, List, [], ◌∷◌, ◌++◌, Option, Some, None, refl, ap, sym, AllByRecursion, eq-eqb, ne_eqb, All-from_recursion, with_login, SessionId, ReplyEnd, Decided, Joined, Rejected, with_command, DoorFacts, LinkFacts, appended, state_of, Opening, login_of, decisions, logins_decided, reply_end, verdict, Command, Edit, Decision, AreAnswered, AreForTheirLogins, Logins, LoginsLast, logins_after, session_in, with_login_of}
 use Rattle.mum_journal_laws.proofs.Seats.{actor_gives, login_found, opened_follow}
 
 -- a login of another connection changes nothing for this one
@@ -44,7 +24,7 @@ module _ (opening : Opening) (connection : ℕ) (session : SessionId) where
       nobody : (o : Option SessionId) → None ≡ o → o ≡ Some session → ⊥
       nobody o none some = cc
 
-  -- behind all commands that follow
+  -- after all commands that follow
   stays_in : (edits : List Edit) (logins : Logins) (made : List Decision) → AreForTheirLogins opening edits logins made → session_in logins connection ≡ Some session
       → session_in (logins_after opening edits logins made) connection ≡ Some session
   stays_in edits logins [] own has = has

@@ -1,3 +1,4 @@
+mod Common
 pub mod Verdicts
 pub mod Packets
 pub mod Seats

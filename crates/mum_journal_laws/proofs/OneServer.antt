@@ -1,42 +1,5 @@
 -- A run is that of one server, field by field.
-use Rattle.std.proofs.Common.{◌≡◌, ◌∙◌, ℕ, zero, suc, ◌+◌, List, [], ◌∷◌, ◌++◌, flat_map, Option, refl, ap, sym, subst, arith}
-use Rattle.std.specs.List.{All, AllByRecursion, AllPairs, AllZip}
-use Rattle.std.proofs.lemmas.List.Elements.{All-cons, All-head, All-nil, All-tail}
-use Rattle.std.proofs.lemmas.List.Kept.{AllPairs-cons}
-use mathlib.Core.List.{IsPrefix}
-use Rattle.mum_audit.specs.Legal.{IsLegal}
-use Rattle.mum_crew.specs.Turns.{TurnsLead, TurnsTo}
-use Rattle.mum_crew.specs.declared.role.Turn.{Turn}
-use Rattle.mum_io.specs.Door.{DoorFacts}
-use Rattle.mum_io.specs.Link.{LinkFacts}
-use Rattle.mum_keeper.specs.Keeping.{KeeperFacts}
-use Rattle.mum_kept.specs.declared.rows.KeptRows.{KeptRows}
-use Rattle.mum_owner.specs.Decided.{with_command}
-use Rattle.mum_published.specs.Calls.{appended}
-use Rattle.mum_published.specs.Facts.{Opening, PassFacts}
-use Rattle.mum_router.specs.Offering.{Outs}
-use Rattle.mum_serve.specs.Asked.{Service}
-use Rattle.mum_serve.specs.Journals.{closing_room, journal_of}
-use Rattle.mum_serve.specs.Opened.{AreOpenedFrom, fresh_pass}
-use Rattle.mum_serve.specs.Serving.{HasRun}
-use Rattle.mum_serve.specs.declared.asked.Objects.{Objects}
-use Rattle.mum_serve.specs.declared.entries.Entries.{Entries}
-use Rattle.mum_serve.specs.declared.summary.Summary.{Summary}
-use Rattle.mum_serve_laws.specs.Decisions.{edits_after}
-use Rattle.mum_serve_laws.specs.Runs.{AreOfTheTurns, AreRouted, AreWritten, decisions_of_run, looks_of_each}
-use Rattle.mum_serve_laws.proofs.Deciding.{edits_decided}
-use Rattle.mum_serve_laws.proofs.Settling.{of_the_desk}
-use Rattle.mum_state.specs.State.{StateValue}
-use Rattle.mum_state.specs.declared.edit.Edit.{Edit}
-use Rattle.mum_step_laws.specs.OwnerTurns.{Decision}
-use Rattle.mum_worker.specs.Facts.{WorkerFacts}
-use Rattle.mum_worker.specs.Opening.{HasOpened, IsUnused}
-use Rattle.mum_worker.specs.Turning.{WorkerTurned}
-use Rattle.mum_worker_laws.specs.Laws.{Follows, Look, Moment, copies_at, copies_made, history, looks_in}
-use Rattle.mum_worker_laws.specs.Laws.Moment.{Looked, Told}
-use Rattle.mum_journal_laws.specs.Following.{AreAnswered, AreForTheirLogins, Logins, with_login_of}
-use Rattle.mum_journal_laws.specs.Journals.{KeepsJournal}
-use Rattle.mum_journal_laws.specs.OneServer.{AreDecided, IsOneServer, LooksGoOn, SendsTheCopies}
+use Rattle.mum_journal_laws.proofs.Common.{◌≡◌, ◌∙◌, ℕ, zero, suc, ◌+◌, List, [], ◌∷◌, ◌++◌, flat_map, Option, refl, ap, sym, subst, arith, All, AllByRecursion, AllPairs, AllZip, All-cons, All-head, All-nil, All-tail, AllPairs-cons, IsPrefix, IsLegal, TurnsLead, TurnsTo, Turn, DoorFacts, LinkFacts, KeeperFacts, KeptRows, with_command, appended, Opening, PassFacts, Outs, Service, closing_room, journal_of, AreOpenedFrom, fresh_pass, HasRun, Objects, Entries, Summary, edits_after, AreOfTheTurns, AreRouted, AreTold, AreWritten, decisions_of_run, looks_of_each, edits_decided, of_the_desk, StateValue, Edit, Decision, WorkerFacts, HasOpened, IsUnused, WorkerTurned, Follows, Look, Moment, copies_at, copies_made, history, looks_in, Looked, Told, Took, AreAnswered, AreForTheirLogins, Logins, with_login_of, KeepsJournal, AreDecided, IsOneServer, LooksGoOn, SendsTheCopies}
 use Rattle.mum_journal_laws.proofs.Runs.{HasFollows, asked_of_run, follow_of_run}
 
 -- ---- the commands
@@ -56,6 +19,7 @@ GoesOn earlier later = IsPrefix earlier.edits later.edits
 later_go_on : (look : Look) (moments : List Moment) → All (λ moment. Follows (Looked look) moment) moments → All (GoesOn look) (looks_in moments)
 later_go_on look [] all = All-nil (GoesOn look)
 later_go_on look (Told reply ∷ moments) all = later_go_on look moments (All-tail (λ moment. Follows (Looked look) moment) (Told reply) moments all)
+later_go_on look (Took takes learnt ∷ moments) all = later_go_on look moments (All-tail (λ moment. Follows (Looked look) moment) (Took takes learnt) moments all)
 later_go_on look (Looked other ∷ moments) all =
     All-cons (GoesOn look) other (looks_in moments) (All-head (λ moment. Follows (Looked look) moment) (Looked other) moments all)
     (later_go_on look moments (All-tail (λ moment. Follows (Looked look) moment) (Looked other) moments all))
@@ -63,6 +27,7 @@ later_go_on look (Looked other ∷ moments) all =
 looks_go_on : (moments : List Moment) → AllPairs Follows moments → LooksGoOn (looks_in moments)
 looks_go_on [] follows = λ i j d before within. absurd (omega arith)
 looks_go_on (Told reply ∷ moments) follows = looks_go_on moments (λ i j d before within. follows (suc i) (suc j) d (omega arith) (omega arith))
+looks_go_on (Took takes learnt ∷ moments) follows = looks_go_on moments (λ i j d before within. follows (suc i) (suc j) d (omega arith) (omega arith))
 looks_go_on (Looked look ∷ moments) follows =
     AllPairs-cons GoesOn look (looks_in moments)
     (later_go_on look moments (λ k d within. follows 0 (suc k) d (omega arith) (omega arith)))
@@ -125,9 +90,10 @@ module _ {D K P L : Type 0} (facts : L → LinkFacts) (door_facts : D → DoorFa
   pub is_one_server : HasFollows facts run.began → HasOrder facts run.began
       → AreRouted facts door_facts last calls keeper_facts state asked workers rows opened summary entries left run
       → AreOfTheTurns facts door_facts last calls keeper_facts state asked workers rows opened summary entries left run
-      → AreWritten facts door_facts last calls keeper_facts state asked workers rows opened summary entries left run → Legal
+      → AreWritten facts door_facts last calls keeper_facts state asked workers rows opened summary entries left run
+      → AreTold facts door_facts last calls keeper_facts state asked workers rows opened summary entries left run → Legal
       → IsOneServer facts door_facts last calls keeper_facts state asked workers rows opened summary entries left run
-  is_one_server follows order routed totals written legal =
+  is_one_server follows order routed totals written told legal =
       let follow = follow_of_run facts door_facts last calls keeper_facts state asked workers rows opened summary entries left run [] in
       let room = closing_room asked.journal asked.connections workers in
       let begins = run.turned.begun.crew_begins.each in record {
@@ -138,6 +104,7 @@ module _ {D K P L : Type 0} (facts : L → LinkFacts) (door_facts : D → DoorFa
         routed = routed;
         onward = all_go_on facts run.began follows room 0 run.turned.first_crew run.crew begins run.turned.crew_turned;
         copied = all_send facts run.began order room 0 run.turned.first_crew run.crew begins run.turned.crew_turned;
+        told = told;
         totals = totals;
         written = written;
         legal = legal;

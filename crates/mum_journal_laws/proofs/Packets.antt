@@ -1,30 +1,5 @@
 -- The voice entries of looks are right, and their revisions never fall.
-use Rattle.std.proofs.Common.{◌≡◌, ◌∙◌, ℕ, suc, ◌≤◌, List, [], ◌∷◌, ◌++◌, length, map, take, Some, refl, ap, sym, subst, arith, length-append}
-use Rattle.std.specs.List.{All, AllByRecursion, AllPairs, filter_map, flat_map}
-use Rattle.std.proofs.lemmas.List.{take_at}
-use Rattle.std.proofs.lemmas.List.Elements.{All-cons, All-head, All-map, All-nil, All-tail}
-use Rattle.std.proofs.lemmas.List.Kept.{AllPairs-cons}
-use mathlib.Core.List.{IsPrefix}
-use Rattle.mum_audit.specs.Finding.{members_of}
-use Rattle.mum_audit.specs.Legal.{IsHeard, IsRight, revision_of}
-use Rattle.mum_audit.specs.Past.{Past, session_of, state_at}
-use Rattle.mum_published.specs.Calls.{state_of}
-use Rattle.mum_published.specs.Facts.{Opening}
-use Rattle.mum_record.specs.declared.journal.WorkerEntry.{WorkerEntry}
-use Rattle.mum_record.specs.declared.journal.WorkerEntry.TheVariants.{Closed, Voice}
-use Rattle.mum_route.specs.Hearers.{member_of}
-use Rattle.mum_route.specs.Laws.{HearersAreTheRoute}
-use Rattle.mum_route.specs.Route.{Member, route}
-use Rattle.mum_route.specs.declared.hearer.Hearer.{Hearer}
-use Rattle.mum_router.specs.Offering.{Delivery, mark_of}
-use Rattle.mum_serve_laws.specs.Counted.{GoesToHearers}
-use Rattle.mum_state.specs.After.{led_to}
-use Rattle.mum_state.specs.State.{StateValue}
-use Rattle.mum_state.specs.declared.edit.Edit.{Edit}
-use Rattle.mum_voice.specs.Packet.{packet}
-use Rattle.mum_worker_laws.specs.Laws.{Follows, Look, Moment, looks_in}
-use Rattle.mum_worker_laws.specs.Laws.Moment.{Looked, Told}
-use Rattle.mum_worker_laws.specs.Voices.{Talk, talk_in, talk_made}
+use Rattle.mum_journal_laws.proofs.Common.{◌≡◌, ◌∙◌, ℕ, suc, ◌≤◌, List, [], ◌∷◌, ◌++◌, length, map, take, Some, refl, ap, sym, subst, arith, length-append, All, AllByRecursion, AllPairs, filter_map, flat_map, take_at, All-cons, All-head, All-map, All-nil, All-tail, AllPairs-cons, IsPrefix, members_of, IsHeard, IsRight, revision_of, Past, session_of, state_at, state_of, Opening, WorkerEntry, Closed, Voice, member_of, HearersAreTheRoute, Member, route, Hearer, Delivery, mark_of, GoesToHearers, led_to, StateValue, Edit, packet, Follows, Look, Moment, looks_in, Looked, Told, Took, Talk, talk_in, talk_made}
 
 -- ---- whom packets went to
 
@@ -116,6 +91,7 @@ longer edits more front =
 later_see : (look : Look) (moments : List Moment) → All (λ moment. Follows (Looked look) moment) moments → All (SeesMore look) (looks_in moments)
 later_see look [] all = All-nil (SeesMore look)
 later_see look (Told reply ∷ moments) all = later_see look moments (All-tail (λ moment. Follows (Looked look) moment) (Told reply) moments all)
+later_see look (Took takes learnt ∷ moments) all = later_see look moments (All-tail (λ moment. Follows (Looked look) moment) (Took takes learnt) moments all)
 later_see look (Looked other ∷ moments) all =
     All-cons (SeesMore look) other (looks_in moments) (longer look.edits other.edits (All-head (λ moment. Follows (Looked look) moment) (Looked other) moments all))
     (later_see look moments (All-tail (λ moment. Follows (Looked look) moment) (Looked other) moments all))
@@ -123,6 +99,7 @@ later_see look (Looked other ∷ moments) all =
 looks_rise : (moments : List Moment) → AllPairs Follows moments → AllPairs SeesMore (looks_in moments)
 looks_rise [] follows = none_paired SeesMore
 looks_rise (Told reply ∷ moments) follows = looks_rise moments (λ i j d before within. follows (suc i) (suc j) d (omega arith) (omega arith))
+looks_rise (Took takes learnt ∷ moments) follows = looks_rise moments (λ i j d before within. follows (suc i) (suc j) d (omega arith) (omega arith))
 looks_rise (Looked look ∷ moments) follows =
     AllPairs-cons SeesMore look (looks_in moments)
     (later_see look moments (λ k d within. follows 0 (suc k) d (omega arith) (omega arith)))

@@ -1,51 +1,6 @@
 -- The journal of a run, field by field.
-use Rattle.std.proofs.Common.{◌≡◌, ◌≢◌, ◌∙◌, ℕ, ◌+◌, ◌≤◌, List, [], ◌∷◌, get_or, map, take, Option, Some, ap, sym, subst}
-use Rattle.std.specs.Prelude.{slice_get}
-use Rattle.std.specs.List.{All, AllByRecursion, AllPairs, AllZip, filter_map, flat_map}
-use Rattle.std.proofs.lemmas.List.Elements.{All-contains, All-from_recursion, recursion_from_All}
-use mathlib.Core.List.{IsPrefix}
-use Rattle.mum_audit.specs.Audit.{entries_of as entries_in, past_before, past_of}
-use Rattle.mum_audit.specs.Controls.{after_entries, mark_on}
-use Rattle.mum_audit.specs.Legal.{IsLegal, IsRight, closed_by, past_at, revision_of}
-use Rattle.mum_audit.specs.Past.{Past, begun, session_of}
-use Rattle.mum_crew.specs.Turns.{TurnsLead, TurnsTo}
-use Rattle.mum_crew.specs.declared.role.Turn.{Turn}
-use Rattle.mum_heard.specs.Again.{RequestsAreHeardAgain}
-use Rattle.mum_io.specs.Door.{DoorFacts}
-use Rattle.mum_io.specs.Link.{LinkFacts}
-use Rattle.mum_keeper.specs.Keeping.{KeeperFacts}
-use Rattle.mum_kept.specs.declared.rows.KeptRows.{KeptRows}
-use Rattle.mum_published.specs.Calls.{appended}
-use Rattle.mum_published.specs.Facts.{Opening, PassFacts}
-use Rattle.mum_record.specs.declared.journal.ControlEntry.{ControlEntry}
-use Rattle.mum_record.specs.declared.journal.Journal.{Journal}
-use Rattle.mum_record.specs.declared.journal.WorkerEntry.{WorkerEntry}
-use Rattle.mum_route.specs.Laws.{HearersAreTheRoute}
-use Rattle.mum_serve.specs.Asked.{Service}
-use Rattle.mum_serve.specs.Journals.{closing_room, entries_of, journal_of, per_worker}
-use Rattle.mum_serve.specs.Opened.{AreOpenedFrom, fresh_pass}
-use Rattle.mum_serve.specs.Serving.{HasRun}
-use Rattle.mum_serve.specs.declared.asked.Objects.{Objects}
-use Rattle.mum_serve.specs.declared.entries.Entries.{Entries}
-use Rattle.mum_serve.specs.declared.summary.Summary.{Summary}
-use Rattle.mum_serve_laws.specs.Decisions.{entries_after, logins_decided}
-use Rattle.mum_serve_laws.specs.Runs.{AreRouted, AreWritten, decisions_of_run, edits_of_run, looks_by_worker, looks_of_run}
-use Rattle.mum_state.specs.State.{StateValue}
-use Rattle.mum_state.specs.declared.edit.Edit.{Edit}
-use Rattle.mum_step_laws.specs.OwnerTurns.{Decision}
-use Rattle.mum_worker.specs.Facts.{WorkerFacts}
-use Rattle.mum_worker.specs.Opening.{HasOpened}
-use Rattle.mum_worker.specs.Turning.{WorkerTurned}
-use Rattle.mum_worker_laws.specs.Laws.{Follows, Look, history, login_made, looks_in}
-use Rattle.mum_worker_laws.specs.Voices.{talk_in, talk_made}
-use Rattle.mum_journal_laws.specs.Following.{AreAskedFor, AreForTheirLogins, Logins, logins_after, session_in}
-use Rattle.mum_journal_laws.specs.Journals.{KeepsJournal}
-use Rattle.mum_journal_laws.proofs.Packets.{IsRightLook, entries_right, revisions_rise}
-use Rattle.mum_journal_laws.proofs.Asked.{all_asked}
-use Rattle.mum_journal_laws.proofs.Closing.{HasClosing, HasOwn, HasRise, close_once}
-use Rattle.mum_journal_laws.proofs.Lasting.{all_last}
-use Rattle.mum_journal_laws.proofs.Seats.{Follow, opened_follow}
-use Rattle.mum_journal_laws.proofs.Verdicts.{past_after, past_with, verdicts_found}
+use Rattle.mum_journal_laws.proofs.Common.{◌≡◌, ◌≢◌, ◌∙◌, ℕ, ◌+◌, ◌≤◌, List, [], ◌∷◌, get_or, map, take, Option, Some, ap, sym, subst, slice_get, All, AllByRecursion, AllPairs, AllZip, filter_map, flat_map, All-contains, All-from_recursion, recursion_from_All, IsPrefix, entries_in, past_before, past_of, after_entries, mark_on, IsLegal, IsRight, closed_by, past_at, revision_of, Past, begun, session_of, TurnsLead, TurnsTo, Turn, RequestsAreHeardAgain, DoorFacts, LinkFacts, KeeperFacts, KeptRows, appended, Opening, PassFacts, ControlEntry, Journal, WorkerEntry, HearersAreTheRoute, Service, closing_room, entries_of, journal_of, per_worker, AreOpenedFrom, fresh_pass, HasRun, Objects, Entries, Summary, entries_after, logins_decided, AreRouted, AreWritten, decisions_of_run, edits_of_run, looks_by_worker, looks_of_run, StateValue, Edit, Decision, WorkerFacts, HasOpened, WorkerTurned, Follows, Look, history, login_made, looks_in, talk_in, talk_made, AreAskedFor, AreForTheirLogins, Logins, logins_after, session_in, KeepsJournal}
+use Rattle.mum_journal_laws.proofs.{Packets.IsRightLook, Packets.entries_right, Packets.revisions_rise, Asked.all_asked, Closing.HasClosing, Closing.HasOwn, Closing.HasRise, Closing.close_once, Lasting.all_last, Seats.Follow, Seats.opened_follow, Verdicts.past_after, Verdicts.past_with, Verdicts.verdicts_found}
 
 -- ---- the workers, one after the other
 
@@ -56,7 +11,7 @@ module _ {L : Type 0} (facts : L → LinkFacts) (opening : Opening) where
       → (all : TurnsTo (WorkerTurned facts opening) opened turns worker)
       → filter_map talk_in worker.common.kept.entries ≡ map talk_made (looks_in (history facts opening opened turns worker all))
 
-  -- what was told or seen before begins what a look sees
+  -- what was reported or seen before begins what a look sees
   abbrev pub HasFollows : Type 0
   HasFollows = (number : ℕ) (pass : PassFacts) (room : Option ℕ) (opened worker : WorkerFacts L) (turns : List Turn) → HasOpened number pass room opened
       → (all : TurnsTo (WorkerTurned facts opening) opened turns worker) → AllPairs Follows (history facts opening opened turns worker all)

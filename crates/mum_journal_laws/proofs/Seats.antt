@@ -1,85 +1,15 @@
 -- The session that is kept for an open connection is that of its last accepted login, among the decisions.
-use Rattle.std.proofs.Common.{◌≡◌, ◌∙◌, ℕ, ◌+◌, ◌<◌, ◌≤◌, ◌==◌, Bool, true, false, cond, List, [], ◌∷◌, ◌++◌, append-nil, map, Option, Some, None, refl, ap, sym, subst, inl, inr, arith}
-use Rattle.std.specs.Prelude.{◌&&◌, ◌||◌, filter, find, is_none, is_some, length, nat_eq, nat_lt, IfSome, MatchBool, MatchOption}
-use Rattle.std.specs.List.{AllByRecursion, list_any}
-use Rattle.std.specs.Option.{option_and_then, option_map, option_map_or}
-use Rattle.std.proofs.lemmas.Bool.{eq-eqb, eqb-true, ne_eqb}
-use Rattle.indexmap.specs.IndexMap.{insert_entry}
-use Rattle.mum_outbox.specs.Facts.{QueueId}
-use Rattle.mum_audit.specs.Past.{with_login}
-use Rattle.mum_bans.specs.Book.{Book}
-use Rattle.mum_frame.specs.declared.frame.Frame.{Frame}
-use Rattle.mum_policy.specs.Member.{Actor}
-use Rattle.mum_base.specs.Codes.{deny_code, reason_code}
-use Rattle.mum_base.specs.declared.number.SessionId.{SessionId}
-use Rattle.mum_base.specs.declared.number.Slot.{Slot}
-use Rattle.mum_base.specs.declared.number.TheConstants.{CONNECTION_LIMIT}
-use Rattle.mum_base.specs.declared.outcome.DenyType.{DenyType}
-use Rattle.mum_base.specs.declared.outcome.Reason.{Reason}
-use Rattle.mum_base.specs.declared.outcome.Reason.TheVariants.{NotThere}
-use Rattle.mum_base.specs.declared.reply.ReplyEnd.{ReplyEnd}
-use Rattle.mum_base.specs.declared.reply.ReplyEnd.TheVariants.{Decided, Joined, Rejected as RejectedEnd}
-use Rattle.mum_control.specs.Commanded.{Commanded, Decides, current}
-use Rattle.mum_control.specs.Facts.{ControlFacts}
-use Rattle.mum_control.specs.Kept.{slot_of}
-use Rattle.mum_control.specs.Posting.{EmptiesPost}
-use Rattle.mum_crew.specs.Turns.{TurnsTo}
-use Rattle.mum_crew.specs.declared.role.Turn.{Turn}
-use Rattle.mum_io.specs.Door.{DoorFacts}
-use Rattle.mum_io.specs.Link.{LinkFacts}
-use Rattle.mum_io.specs.declared.door.Accept.{Accept}
+use Rattle.mum_journal_laws.proofs.Common.{◌≡◌, ◌∙◌, ℕ, ◌+◌, ◌<◌, ◌≤◌, ◌==◌, Bool, true, false, cond, List, [], ◌∷◌, ◌++◌, append-nil, map, Option, Some, None, refl, ap, sym, subst, inl, inr, arith, ◌&&◌, ◌||◌, filter, find, is_none, is_some, length, nat_eq, nat_lt, IfSome, MatchBool, MatchOption, AllByRecursion, list_any, option_and_then, option_map, option_map_or, eq-eqb, eqb-true, ne_eqb, insert_entry, QueueId, with_login, Book, Frame, Actor, deny_code, reason_code, SessionId, Slot, CONNECTION_LIMIT, DenyType, Reason, NotThere, ReplyEnd, Decided, Joined, RejectedEnd, Commanded, Decides, current, ControlFacts, slot_of, EmptiesPost, TurnsTo, Turn, DoorFacts, LinkFacts, Accept, Answers, IsGivenOrRefused, ListComesTo, SettledBy, TestedBy, ban_reply, banned_in, book_after, is_banned, list_reply, with_warden, with_command, GuestsFacts, OwnerFacts, IsGiven, roll_of, is_not_of, is_of, joined_by, lag_noted, left, new_guest, owned, seated, IsOpened, EmptiesFor, LeaveIsGiven, Next, Receives, ReceivesBy, ReceivesItem, Rests, Serves, leave_after, leave_of, may_go, must_wait, next, next_by, with_pass, Again, Goes, Rest, Take, ArchivesBy, Asks, OwnerTurned, PostsOne, Presses, Publishes, guests_by, is_not_to_ask, is_over, is_through, lag_at, makes_note, pressing, with_lag, is_leave, is_login, PENDING_LIMIT, Guest, Lag, DeskItem, appended, state_of, Opening, ReplyFacts, TreeCommand, first_lack, first_standing, unless_refused, actor_named, command_verdict, tree_verdict, TreeMessage, Lack, UserCommand, command_of, limits, needs, reasons, actor_for, heard_verdict, UserMessage, Leave, decisions, edits_after, turns_lead, reply_end, verdict, Asked, Tree, User, Command, granted_where_there, StateValue, policy_of, Edit, Verdict, Accepted, Answer, Ignored, Lacks, Refused, Decision, decided_as, decided_by, decided_command, decided_given, decided_item, decided_leave, decided_owned, decided_receiving, decided_settling, decided_tested, decided_waiting, decisions_of, sent, WardenFacts, verdict_in, AreAnswered, AreForTheirLogins, DecisionsAreForTheirLogins, Logins, logins_after, session_in, with_login_of}
+use Rattle.mum_state.specs.declared.verdict.Verdict.TheVariants.{Rejected}
+use Rattle.mum_owner.specs.Guests.{session_of}
 use Rattle.mum_io.specs.declared.door.Accept.TheVariants as accepted
-use Rattle.mum_owner.specs.Banning.{Answers, IsGivenOrRefused, ListComesTo, SettledBy, TestedBy, ban_reply, banned_in, book_after, is_banned, list_reply, with_warden}
-use Rattle.mum_owner.specs.Decided.{with_command}
-use Rattle.mum_owner.specs.Facts.{GuestsFacts, OwnerFacts}
-use Rattle.mum_owner.specs.Given.{IsGiven, roll_of}
-use Rattle.mum_owner.specs.Guests.{is_not_of, is_of, joined_by, lag_noted, left, new_guest, owned, seated, session_of}
-use Rattle.mum_owner.specs.Opened.{IsOpened}
-use Rattle.mum_owner.specs.Serving.{EmptiesFor, LeaveIsGiven, Next, Receives, ReceivesBy, ReceivesItem, Rests, Serves, leave_after, leave_of, may_go, must_wait, next, next_by, with_pass}
-use Rattle.mum_owner.specs.Serving.Next.{Again, Goes, Rest, Take}
-use Rattle.mum_owner.specs.Turned.{ArchivesBy, Asks, OwnerTurned, PostsOne, Presses, Publishes, guests_by, is_not_to_ask, is_over, is_through, lag_at, makes_note, pressing, with_lag}
-use Rattle.mum_owner.specs.Written.{is_leave, is_login}
-use Rattle.mum_owner.specs.declared.desk.TheConstants.{PENDING_LIMIT}
-use Rattle.mum_owner.specs.declared.guests.Guest.{Guest}
-use Rattle.mum_owner.specs.declared.kept.Lag.{Lag}
-use Rattle.mum_port.specs.declared.item.DeskItem.{DeskItem}
 use Rattle.mum_port.specs.declared.item.DeskItem.TheVariants as items
-use Rattle.mum_published.specs.Calls.{appended, state_of}
-use Rattle.mum_published.specs.Facts.{Opening, ReplyFacts}
-use Rattle.mum_rules_tree.specs.Asked.{Command as TreeCommand}
 use Rattle.mum_rules_tree.specs.Asked as tree_asked
-use Rattle.mum_rules_tree.specs.Decision.{first_lack, first_standing, unless_refused}
 use Rattle.mum_rules_tree.specs.Limits as tree_limits
 use Rattle.mum_rules_tree.specs.Needs as tree_needs
 use Rattle.mum_rules_tree.specs.Outcome as tree_outcome
 use Rattle.mum_rules_tree.specs.Reasons as tree_reasons
-use Rattle.mum_rules_tree.specs.Verdict.{actor_named, command_verdict, tree_verdict}
-use Rattle.mum_rules_tree.specs.declared.message.TreeMessage.{TreeMessage}
-use Rattle.mum_rules_tree.specs.declared.needs.Lack.{Lack}
-use Rattle.mum_rules_user.specs.Asked.{Command as UserCommand, command_of}
 use Rattle.mum_rules_user.specs.Outcome as user_outcome
-use Rattle.mum_rules_user.specs.Limits.{limits}
-use Rattle.mum_rules_user.specs.Needs.{needs}
-use Rattle.mum_rules_user.specs.Reasons.{reasons}
-use Rattle.mum_rules_user.specs.Verdict.{actor_for, heard_verdict}
-use Rattle.mum_rules_user.specs.declared.message.UserMessage.{UserMessage}
-use Rattle.mum_rules_user.specs.declared.message.UserMessage.TheVariants.{Leave}
-use Rattle.mum_serve_laws.specs.Decisions.{decisions, edits_after}
-use Rattle.mum_serve_laws.proofs.Deciding.{turns_lead}
-use Rattle.mum_session.specs.Reply.{reply_end}
-use Rattle.mum_session.specs.Verdict.{verdict}
-use Rattle.mum_session.specs.declared.command.Asked.{Asked}
-use Rattle.mum_session.specs.declared.command.Asked.TheVariants.{Tree, User}
-use Rattle.mum_session.specs.declared.command.Command.{Command}
-use Rattle.mum_state.specs.Permissions.{granted_where_there}
-use Rattle.mum_state.specs.State.{StateValue, policy_of}
-use Rattle.mum_state.specs.declared.edit.Edit.{Edit}
-use Rattle.mum_state.specs.declared.verdict.Verdict.{Verdict}
-use Rattle.mum_state.specs.declared.verdict.Verdict.TheVariants.{Accepted, Answer, Ignored, Lacks, Refused, Rejected}
-use Rattle.mum_step_laws.specs.OwnerTurns.{Decision, decided_as, decided_by, decided_command, decided_given, decided_item, decided_leave, decided_owned, decided_receiving, decided_settling, decided_tested, decided_waiting, decisions_of}
-use Rattle.mum_warden.specs.Answer.{sent}
-use Rattle.mum_warden.specs.Warden.{WardenFacts, verdict_in}
-use Rattle.mum_journal_laws.specs.Following.{AreAnswered, AreForTheirLogins, DecisionsAreForTheirLogins, Logins, logins_after, session_in, with_login_of}
 
 -- ---- a leave is no login
 
@@ -455,7 +385,7 @@ module _ {D L : Type 0} where
   abbrev SeatedAs : Logins → OwnerFacts D L → Type 0
   SeatedAs logins owner = Seats logins owner.guests owner.desk.leave
 
-  -- these decisions are for their logins, and the sessions that are kept behind them are those of the logins
+  -- these decisions are for their logins, and the sessions that are kept after them are those of the logins
   record Follows (logins : Logins) (old : ControlFacts) (made : List Decision) (new : OwnerFacts D L) : Type 0 where
     own : AreForTheirLogins old.publisher.opening (appended old.publisher) logins made
     ends : AreAnswered old.publisher.opening (appended old.publisher) made

@@ -1,24 +1,5 @@
 -- The journal of a server is that of its run.
-use Rattle.std.proofs.Common.{◌≡◌, ℕ, true, List, Option, Some, None, ap, refl, subst}
-use Rattle.mum_audit.specs.Legal.{IsLegal}
-use Rattle.mum_crew.specs.Crew.{CrewCounts}
-use Rattle.mum_io.specs.Door.{DoorFacts}
-use Rattle.mum_io.specs.Link.{LinkFacts}
-use Rattle.mum_keeper.specs.Keeping.{KeeperFacts}
-use Rattle.mum_kept.specs.declared.rows.KeptRows.{KeptRows}
-use Rattle.mum_opening.specs.Opening.{document_edits, greatest_limits, opening}
-use Rattle.mum_serve.specs.Asked.{Lent, Service}
-use Rattle.mum_serve.specs.Journals.{journal_of}
-use Rattle.mum_serve.specs.Loading.{Loads, state_over}
-use Rattle.mum_serve.specs.Program.{HasServed}
-use Rattle.mum_serve.specs.Serving.{HasRun}
-use Rattle.mum_serve.specs.declared.asked.Objects.{Objects}
-use Rattle.mum_serve.specs.declared.entries.Entries.{Entries}
-use Rattle.mum_serve.specs.declared.program.Input.{Input}
-use Rattle.mum_serve.specs.declared.program.ServerEnd.{ServerEnd}
-use Rattle.mum_serve.specs.declared.summary.Summary.{Summary}
-use Rattle.mum_state.specs.State.{StateValue}
-use Rattle.mum_journal_laws.specs.Journals.{KeepsJournal}
+use Rattle.mum_journal_laws.proofs.Common.{◌≡◌, ℕ, true, List, Option, Some, None, ap, refl, subst, IsLegal, CrewCounts, DoorFacts, LinkFacts, KeeperFacts, KeptRows, document_edits, greatest_limits, opening, Lent, Service, journal_of, Loads, state_over, HasServed, HasRun, Objects, Entries, Input, ServerEnd, Summary, StateValue, KeepsJournal}
 
 -- a server without rows begins as its configuration says
 begins : (document : List ℕ) (rows : Option KeptRows) → rows ≡ None → state_over (document_edits document) rows ≡ opening greatest_limits document

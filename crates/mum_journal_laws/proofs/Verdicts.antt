@@ -1,24 +1,5 @@
 -- The control entries of decisions have the verdicts that an audit finds.
-use Rattle.std.proofs.Common.{◌≡◌, ◌∙◌, ℕ, zero, suc, ◌+◌, List, [], ◌∷◌, length, take, Option, Some, refl, ap, sym}
-use Rattle.std.specs.Prelude.{slice_get}
-use Rattle.mum_audit.specs.Controls.{after_entries, after_entry, mark_on, verdict_on}
-use Rattle.mum_audit.specs.Decision.{decided}
-use Rattle.mum_audit.specs.Past.{Past, after_verdict}
-use Rattle.mum_base.specs.declared.number.SessionId.{SessionId}
-use Rattle.mum_heard.specs.Again.{IsHeardAgain, RequestsAreHeardAgain}
-use Rattle.mum_owner.specs.Decided.{with_command}
-use Rattle.mum_owner.specs.Written.{own_frame, version_of}
-use Rattle.mum_published.specs.Calls.{state_of}
-use Rattle.mum_published.specs.Facts.{Opening}
-use Rattle.mum_record.specs.declared.journal.ControlEntry.{ControlEntry}
-use Rattle.mum_serve_laws.specs.Decisions.{edits_after, entries_after, entry_of}
-use Rattle.mum_session.specs.Reply.{mark}
-use Rattle.mum_session.specs.Verdict.{verdict}
-use Rattle.mum_session.specs.declared.command.Command.{Command}
-use Rattle.mum_state.specs.declared.edit.Edit.{Edit}
-use Rattle.mum_state.specs.declared.verdict.Verdict.{Verdict}
-use Rattle.mum_step_laws.specs.OwnerTurns.{Decision}
-use Rattle.mum_journal_laws.specs.Following.{AreAskedFor, AreForTheirLogins, Logins, logins_after, session_in, with_login_of}
+use Rattle.mum_journal_laws.proofs.Common.{◌≡◌, ◌∙◌, ℕ, zero, suc, ◌+◌, List, [], ◌∷◌, length, take, Option, Some, refl, ap, sym, slice_get, after_entries, after_entry, mark_on, verdict_on, decided, Past, after_verdict, SessionId, IsHeardAgain, RequestsAreHeardAgain, with_command, own_frame, version_of, state_of, Opening, ControlEntry, edits_after, entries_after, entry_of, mark, verdict, Command, Edit, Verdict, Decision, AreAskedFor, AreForTheirLogins, Logins, logins_after, session_in, with_login_of}
 
 module _ (opening : Opening) where
   -- what these edits and logins leave

@@ -1,28 +1,21 @@
 -- For whom commands are decided, one after the other.
 use Rattle.std.specs.Prelude.{◌≡◌, ◌==◌, ℕ, Bool, List, [], ◌∷◌, Option, Some, ⊤}
-use Rattle.std.specs.List.{All, AllByRecursion}
-use Rattle.std.specs.Map.{lookup}
-use Rattle.mum_outbox.specs.Facts.{QueueId}
-use Rattle.mum_audit.specs.Past.{with_login}
+use Rattle.std.specs.{List.All, List.AllByRecursion, Map.lookup}
 use Rattle.mum_base.specs.declared.number.SessionId.{SessionId}
-use Rattle.mum_control.specs.Facts.{ControlFacts}
+use Rattle.mum_io.specs.{Door.DoorFacts, Link.LinkFacts}
+use Rattle.mum_outbox.specs.Facts.{QueueId}
 use Rattle.mum_crew.specs.Turns.{TurnsTo}
 use Rattle.mum_crew.specs.declared.role.Turn.{Turn}
-use Rattle.mum_io.specs.Door.{DoorFacts}
-use Rattle.mum_io.specs.Link.{LinkFacts}
-use Rattle.mum_owner.specs.Decided.{with_command}
-use Rattle.mum_owner.specs.Facts.{OwnerFacts}
-use Rattle.mum_owner.specs.Opened.{IsOpened}
-use Rattle.mum_owner.specs.Turned.{OwnerTurned}
-use Rattle.mum_port.specs.Asked.{WasAsked}
-use Rattle.mum_published.specs.Calls.{appended, state_of}
-use Rattle.mum_published.specs.Facts.{Opening}
-use Rattle.mum_session.specs.Reply.{reply_end}
-use Rattle.mum_session.specs.Verdict.{verdict}
-use Rattle.mum_session.specs.declared.command.Command.{Command}
 use Rattle.mum_state.specs.declared.edit.Edit.{Edit}
-use Rattle.mum_serve_laws.specs.Decisions.{decisions, logins_decided}
+use Rattle.mum_published.specs.{Calls.appended, Calls.state_of, Facts.Opening}
+use Rattle.mum_session.specs.{Reply.reply_end, Verdict.verdict}
+use Rattle.mum_session.specs.declared.command.Command.{Command}
+use Rattle.mum_port.specs.Asked.{WasAsked}
+use Rattle.mum_control.specs.Facts.{ControlFacts}
+use Rattle.mum_audit.specs.Past.{with_login}
+use Rattle.mum_owner.specs.{Decided.with_command, Facts.OwnerFacts, Opened.IsOpened, Turned.OwnerTurned}
 use Rattle.mum_step_laws.specs.OwnerTurns.{Decision}
+use Rattle.mum_serve_laws.specs.Decisions.{decisions, logins_decided}
 
 -- each connection whose login was accepted, with the session that it got
 abbrev pub Logins : Type 0
@@ -32,12 +25,12 @@ Logins = List (ℕ × SessionId)
 abbrev pub session_in : Logins → ℕ → Option SessionId
 session_in logins connection = lookup (λ other. connection == other) logins
 
--- with the login of a command that is decided behind these edits, if it is one and is accepted
+-- with the login of a command that is decided after these edits, if it is one and is accepted
 abbrev pub with_login_of : Opening → List Edit → Command → Logins → Logins
 with_login_of opening edits command logins =
     with_login command.connection (reply_end (verdict (state_of opening edits) command.session command.what)) logins
 
--- the logins that commands leave which are decided behind these edits, one after the other
+-- the logins that commands leave which are decided after these edits, one after the other
 abbrev pub logins_after : Opening → List Edit → Logins → List Decision → Logins
 logins_after opening edits logins [] = logins
 logins_after opening edits logins (decision ∷ others) =
@@ -70,7 +63,7 @@ DecisionsAreForTheirLogins D L door_facts link_facts =
     → AreForTheirLogins opened.control.publisher.opening (appended opened.control.publisher) []
     (decisions door_facts link_facts opened turns owner all)
 
--- a login of a connection that one of these commands was is still its login behind all of them, with the session that
+-- a login of a connection that one of these commands was is still its login after all of them, with the session that
 -- it got
 abbrev pub LoginsLast : (D L : Type 0) → (D → DoorFacts) → (L → LinkFacts) → Type 0
 LoginsLast D L door_facts link_facts =

@@ -1,31 +1,24 @@
 -- A run of a server, whatever its threads did, is that of one server which does one thing after the other.
+use mathlib.Core.List.{IsPrefix}
 use Rattle.std.specs.Prelude.{◌≡◌, ℕ, List, [], ◌∷◌, flat_map, Option, ⊤}
 use Rattle.std.specs.List.{All, AllByRecursion, AllPairs, AllZip}
-use mathlib.Core.List.{IsPrefix}
-use Rattle.mum_audit.specs.Legal.{IsLegal}
-use Rattle.mum_core.specs.Laws.{IsSubsequenceBy}
-use Rattle.mum_io.specs.Door.{DoorFacts}
-use Rattle.mum_io.specs.Link.{LinkFacts}
-use Rattle.mum_keeper.specs.Keeping.{KeeperFacts}
-use Rattle.mum_kept.specs.declared.rows.KeptRows.{KeptRows}
-use Rattle.mum_owner.specs.Decided.{with_command}
-use Rattle.mum_published.specs.Calls.{appended, state_of}
-use Rattle.mum_published.specs.Facts.{Opening}
-use Rattle.mum_serve.specs.Asked.{Service}
-use Rattle.mum_serve.specs.Journals.{journal_of}
-use Rattle.mum_serve.specs.Serving.{HasRun}
-use Rattle.mum_serve.specs.declared.asked.Objects.{Objects}
-use Rattle.mum_serve.specs.declared.entries.Entries.{Entries}
-use Rattle.mum_serve.specs.declared.summary.Summary.{Summary}
-use Rattle.mum_serve_laws.specs.Decisions.{IsOn, work_done}
-use Rattle.mum_serve_laws.specs.Runs.{AreOfTheTurns, AreRouted, AreWritten, decisions_of_run, edits_of_run, looks_by_worker}
-use Rattle.mum_session.specs.Reply.{reply_end}
-use Rattle.mum_session.specs.Verdict.{verdict}
+use Rattle.mum_io.specs.{Door.DoorFacts, Link.LinkFacts}
 use Rattle.mum_state.specs.State.{StateValue}
 use Rattle.mum_state.specs.declared.edit.Edit.{Edit}
-use Rattle.mum_step_laws.specs.OwnerTurns.{Decision}
+use Rattle.mum_published.specs.{Calls.appended, Calls.state_of, Facts.Opening}
+use Rattle.mum_kept.specs.declared.rows.KeptRows.{KeptRows}
+use Rattle.mum_session.specs.{Reply.reply_end, Verdict.verdict}
+use Rattle.mum_core.specs.Laws.{IsSubsequenceBy}
+use Rattle.mum_audit.specs.Legal.{IsLegal}
+use Rattle.mum_keeper.specs.Keeping.{KeeperFacts}
 use Rattle.mum_worker.specs.Facts.{WorkerFacts}
+use Rattle.mum_owner.specs.Decided.{with_command}
 use Rattle.mum_worker_laws.specs.Laws.{Look, copies_at, copies_made}
+use Rattle.mum_serve.specs.{Asked.Service, Journals.journal_of, Serving.HasRun}
+use Rattle.mum_serve.specs.declared.{asked.Objects.Objects, entries.Entries.Entries, summary.Summary.Summary}
+use Rattle.mum_step_laws.specs.OwnerTurns.{Decision}
+use Rattle.mum_serve_laws.specs.Decisions.{IsOn, work_done}
+use Rattle.mum_serve_laws.specs.Runs.{AreOfTheTurns, AreRouted, AreTold, AreWritten, decisions_of_run, edits_of_run, looks_by_worker}
 use Rattle.mum_journal_laws.specs.Following.{AreAskedFor, Logins, session_in, with_login_of}
 use Rattle.mum_journal_laws.specs.Journals.{KeepsJournal}
 
@@ -76,6 +69,8 @@ module _ {D K P L : Type 0} (facts : L → LinkFacts) (door_facts : D → DoorFa
     -- each box got these copies, once and in order
     pub copied : AllZip SendsTheCopies run.crew (looks_by_worker facts door_facts last calls keeper_facts state asked
         workers rows opened summary entries left run)
+    -- nobody is sent what the rules would not give, and what was sent holds from then on
+    pub told : AreTold facts door_facts last calls keeper_facts state asked workers rows opened summary entries left run
     -- totals and journal say what was done, and the journal is legal
     pub totals : AreOfTheTurns facts door_facts last calls keeper_facts state asked workers rows opened summary entries
         left run

@@ -1,21 +1,6 @@
 -- The changes that lead from rows to others do, made one after another.
-use Rattle.std.proofs.Common.{◌≡◌, ℕ, ◌≤◌, ◌&&◌, ◌||◌, Bool, true, false, eqb, ltb, List, [], ◌∷◌, ◌++◌, map, ℤ, refl, ap, ◌∙◌, arith}
-use Rattle.std.specs.List.{AllByRecursion}
-use Rattle.std.specs.Ordering.{int_eq}
-use Rattle.std.specs.Str.{bytes_eq}
-use Rattle.std.proofs.lemmas.Bool.{and_parts, eqb-true, le-ltb}
-use Rattle.std.proofs.lemmas.Bool.Decides.{Decides-int_eq, nat_tests}
-use Rattle.std.proofs.lemmas.List.Sums.{fold-append}
-use Rattle.std.proofs.lemmas.Slice.Eq.{bytes_eq-Decides}
-use Rattle.mum_state.proofs.Each.{Each}
-use Rattle.mum_tree.specs.State.{Pair, is_pair}
-use Rattle.mum_tree.specs.declared.channel.ChannelInfo.{ChannelInfo}
-use Rattle.mum_kept.specs.declared.rows.KeptChannel.{KeptChannel}
-use Rattle.mum_kept.specs.declared.rows.KeptRows.{KeptRows}
+use Rattle.mum_keeper.proofs.Common.{◌≡◌, ℕ, ◌≤◌, ◌&&◌, ◌||◌, Bool, true, false, eqb, ltb, List, [], ◌∷◌, ◌++◌, map, ℤ, refl, ap, ◌∙◌, arith, AllByRecursion, int_eq, bytes_eq, and_parts, eqb-true, le-ltb, Decides-int_eq, nat_tests, fold-append, bytes_eq-Decides, Each, Pair, is_pair, ChannelInfo, KeptChannel, KeptRows, LeadsOver, all_made, channel_before, drop_of, is_same_channel, is_same_info, link_before, link_of, linked_by, made, put_of, unlink_of, without_link, any_like, unmatched, with_row, Change}
 use Rattle.mum_keeper.proofs.Merging.{IsOrder, adds, drops, each_unmatched, led_over}
-use Rattle.mum_keeper.specs.Changes.{LeadsOver, all_made, channel_before, drop_of, is_same_channel, is_same_info, link_before, link_of, linked_by, made, put_of, unlink_of, without_link}
-use Rattle.mum_keeper.specs.Order.{any_like, unmatched, with_row}
-use Rattle.mum_keeper.specs.declared.change.Change.{Change}
 
 -- ---- the orders
 

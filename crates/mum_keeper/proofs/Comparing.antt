@@ -1,28 +1,7 @@
 -- A keeper that is brought from rows to others, and what is kept of it.
-use Rattle.std.proofs.Common.{◌≡◌, ◌≢◌, ◌↔◌, inl, inr, ◌==◌, ℕ, ◌&&◌, Bool, true, false, eqb, if◌then◌else◌, List, [], ◌∷◌, ◌++◌, length, map, Option, Some, None, refl, sym, ap, subst, ◌∙◌}
-use Rattle.std.specs.Option.{option_map}
-use Rattle.std.specs.Ordering.{int_eq}
-use Rattle.std.specs.Str.{bytes_eq}
-use Rattle.std.proofs.lemmas.Bool.{and_from, eq-eqb, eqb-true}
-use Rattle.std.proofs.lemmas.Bool.Decides.{Decides-int_eq}
-use Rattle.std.proofs.lemmas.List.{nil_from_length}
-use Rattle.std.proofs.lemmas.Slice.Eq.{bytes_eq-Decides}
-use Rattle.mum_io.proofs.CountLemmas.{Rose-later, Rose-≤}
-use Rattle.mum_io.specs.Counts.{Rose}
-use Rattle.mum_tree.specs.State.{Pair}
-use Rattle.mum_tree.specs.declared.channel.ChannelInfo.{ChannelInfo}
-use Rattle.mum_kept.specs.declared.rows.KeptChannel.{KeptChannel}
-use Rattle.mum_kept.specs.declared.rows.KeptRows.{KeptRows}
-use Rattle.mum_keeper.proofs.Changing.{channel_order, has_ends, has_number, lead_over, link_order}
-use Rattle.mum_keeper.proofs.Merging.{IsOrder}
-use Rattle.mum_keeper.specs.Changes.{AreInOrder, all_made, channel_before, difference, drop_of, is_same_channel, is_same_info, link_before, linked_by, put_of, unlink_of}
-use Rattle.mum_keeper.specs.Keeping.{AreRowsOf, KeepCall, KeepCounts, KeeperFacts, Makes, with_call}
-use Rattle.mum_keeper.specs.Mirror.{Brings, BringsTo, IsMirror, IsSince, MirrorFacts, after_compare, failed_now, opening_of, rows_left}
-use Rattle.mum_keeper.specs.Order.{any_like, unmatched}
-use Rattle.mum_keeper.specs.declared.change.Change.{Change}
-use Rattle.mum_keeper.specs.declared.keeper.KeepEnd.{KeepEnd}
+use Rattle.mum_keeper.proofs.Common.{◌≡◌, ◌≢◌, ◌↔◌, inl, inr, ◌==◌, ℕ, ◌&&◌, Bool, true, false, eqb, if◌then◌else◌, List, [], ◌∷◌, ◌++◌, length, map, Option, Some, None, refl, sym, ap, subst, ◌∙◌, option_map, int_eq, bytes_eq, and_from, eq-eqb, eqb-true, Decides-int_eq, nil_from_length, bytes_eq-Decides, Rose-later, Rose-≤, Rose, Pair, ChannelInfo, KeptChannel, KeptRows, AreInOrder, all_made, channel_before, difference, drop_of, is_same_channel, is_same_info, link_before, linked_by, put_of, unlink_of, AreRowsOf, KeepCall, KeepCounts, KeeperFacts, Makes, with_call, Brings, BringsTo, IsMirror, IsSince, MirrorFacts, after_compare, failed_now, opening_of, rows_left, any_like, unmatched, Change, KeepEnd, KeeperOpening}
+use Rattle.mum_keeper.proofs.{Changing.channel_order, Changing.has_ends, Changing.has_number, Changing.lead_over, Changing.link_order, Merging.IsOrder}
 use Rattle.mum_keeper.specs.declared.keeper.KeepEnd.TheVariants as ends
-use Rattle.mum_keeper.specs.declared.naming.KeeperOpening.{KeeperOpening}
 
 -- ---- rows differ in nothing from themselves
 

@@ -1,20 +1,6 @@
 -- The rows that are kept of a state are in order.
-use Rattle.std.proofs.Common.{◌≡◌, ◌≤◌, ◌<◌, suc, ◌&&◌, Bool, true, false, cond, ltb, List, [], ◌∷◌, filter, map, refl, arith}
-use Rattle.std.specs.List.{AllByRecursion}
-use Rattle.std.proofs.lemmas.Bool.{and_parts, lt-ltb, ltb-true}
-use Rattle.std.proofs.lemmas.List.Kept.{AllPairs-filter}
-use Rattle.mum_state.proofs.Each.{Each, each_filter, each_from_all, each_map}
-use Rattle.mum_state.specs.Proper.{IsProper}
-use Rattle.mum_state.specs.State.{StateValue}
-use Rattle.mum_tree.proofs.Find.{AllPairs-tail}
-use Rattle.mum_tree.specs.Rows.{number, Rise as RowsRise}
-use Rattle.mum_tree.specs.State.{Pair, TreeState}
-use Rattle.mum_tree.specs.declared.channel.Row.{Row}
-use Rattle.mum_kept.specs.Kept.{is_kept_link, is_lasting, kept, kept_channel, kept_channels, lasts}
-use Rattle.mum_kept.specs.declared.rows.KeptChannel.{KeptChannel}
-use Rattle.mum_keeper.proofs.Merging.{IsAfter, Rises}
-use Rattle.mum_keeper.proofs.Ordering.{risen}
-use Rattle.mum_keeper.specs.Changes.{AreInOrder, channel_before, link_before}
+use Rattle.mum_keeper.proofs.Common.{◌≡◌, ◌≤◌, ◌<◌, suc, ◌&&◌, Bool, true, false, cond, ltb, List, [], ◌∷◌, filter, map, refl, arith, AllByRecursion, and_parts, lt-ltb, ltb-true, AllPairs-filter, Each, each_filter, each_from_all, each_map, IsProper, StateValue, AllPairs-tail, number, RowsRise, Pair, TreeState, Row, is_kept_link, is_lasting, kept, kept_channel, kept_channels, lasts, KeptChannel, AreInOrder, channel_before, link_before}
+use Rattle.mum_keeper.proofs.{Merging.IsAfter, Merging.Rises, Ordering.risen}
 
 module _ (state : StateValue) where
   abbrev row_kept : Row → KeptChannel

@@ -1,3 +1,5 @@
+mod Common
+pub mod Public
 pub mod Changing
 pub mod Comparing
 pub mod Keptness

@@ -1,9 +1,5 @@
 -- What leads from rows that rise to others that do: rows that are gone, and then rows that are new or otherwise.
-use Rattle.std.proofs.Common.{◌≡◌, suc, Bool, true, false, not, if◌then◌else◌, List, [], ◌∷◌, ◌++◌, filter, fold, refl, sym, ap, ◌∙◌, arith}
-use Rattle.std.specs.Prelude.{⊤}
-use Rattle.mum_state.proofs.Each.{Each, each_from_all, each_so}
-use Rattle.mum_tree.proofs.Find.{AllPairs-tail}
-use Rattle.mum_keeper.specs.Order.{Rise, any_like, unmatched, with_row}
+use Rattle.mum_keeper.proofs.Common.{◌≡◌, suc, Bool, true, false, not, if◌then◌else◌, List, [], ◌∷◌, ◌++◌, filter, fold, refl, sym, ap, ◌∙◌, arith, ⊤, Each, each_from_all, each_so, AllPairs-tail, Rise, any_like, unmatched, with_row}
 
 -- what an order of rows keeps, by which two rows have one key where neither is before the other
 pub record IsOrder {A : Type 0} (before has_key : A → A → Bool) : Type 0 where

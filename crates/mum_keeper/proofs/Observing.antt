@@ -1,18 +1,7 @@
--- A look of a store, and the comparison behind it.
-use Rattle.std.proofs.Common.{◌≡◌, Ok, Err, true, refl, sym, subst}
-use Rattle.std.specs.declared.alloc.AllocError.{AllocError}
-use Rattle.mum_kept.specs.Kept.{kept}
-use Rattle.mum_kept.specs.declared.rows.KeptRows.{KeptRows}
-use Rattle.mum_published.specs.Calls.{state_of}
-use Rattle.mum_published.specs.Facts.{PassFacts}
+-- A look of a store, and the comparison after it.
+use Rattle.mum_keeper.proofs.Common.{◌≡◌, Ok, Err, true, refl, sym, subst, AllocError, kept, KeptRows, state_of, PassFacts, KeeperFacts, Looks, Compares, MirrorFacts, Observes, StoreFacts, KeepEnd, Found}
 use Rattle.mum_keeper.proofs.Comparing.{starved}
-use Rattle.mum_keeper.specs.Keeping.{KeeperFacts}
-use Rattle.mum_keeper.specs.Look.{Looks}
-use Rattle.mum_keeper.specs.Mirror.{Compares, MirrorFacts}
-use Rattle.mum_keeper.specs.Store.{Observes, StoreFacts}
-use Rattle.mum_keeper.specs.declared.keeper.KeepEnd.{KeepEnd}
 use Rattle.mum_keeper.specs.declared.keeper.KeepEnd.TheVariants as ends
-use Rattle.mum_keeper.specs.declared.look.Found.{Found}
 
 module _ {P : Type 0} (facts : P → KeeperFacts) where
   -- memory ran out before anything was compared

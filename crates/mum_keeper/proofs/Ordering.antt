@@ -1,22 +1,6 @@
 -- Rows stay in order, whatever changes are made of them.
-use Rattle.std.proofs.Common.{◌≡◌, ℕ, ◌+◌, ◌<◌, zero, suc, Bool, true, false, not, cond, ltb, ◌==◌, if◌then◌else◌, List, [], ◌∷◌, filter, get_or, length, take, Result, Ok, Err, OnOk, OnErr, refl, sym, ap, subst, ◌∙◌, arith}
-use Rattle.std.specs.List.{All, AllByRecursion}
-use Rattle.std.proofs.lemmas.Bool.{ltb-false, ltb-true}
-use Rattle.std.proofs.lemmas.List.{take_more}
-use Rattle.std.proofs.lemmas.List.Kept.{AllPairs-cons, AllPairs-filter}
-use Rattle.std.proofs.lemmas.List.Sums.{fold-append}
-use Rattle.mum_base.specs.declared.number.ChannelId.{ChannelId}
-use Rattle.mum_state.proofs.Each.{Each, each_so}
-use Rattle.mum_tree.specs.State.{Pair}
-use Rattle.std.specs.declared.alloc.AllocError.{AllocError}
-use Rattle.mum_kept.specs.declared.rows.KeptChannel.{KeptChannel}
-use Rattle.mum_kept.specs.declared.rows.KeptRows.{KeptRows}
-use Rattle.mum_keeper.proofs.Changing.{IsLesserFirst, channel_order, each_of, has_ends, has_number, link_order}
-use Rattle.mum_keeper.proofs.Merging.{IsAfter, IsOrder, Rises, rises}
-use Rattle.mum_keeper.specs.Changes.{AreInOrder, all_made, channel_before, link_before, link_of, made}
-use Rattle.mum_keeper.specs.Order.{Rise, with_row}
-use Rattle.mum_keeper.specs.declared.change.Change.{Change}
-use Rattle.mum_keeper.specs.declared.change.Change.TheVariants.{Put, Drop, Link, Unlink}
+use Rattle.mum_keeper.proofs.Common.{◌≡◌, ℕ, ◌+◌, ◌<◌, zero, suc, Bool, true, false, not, cond, ltb, ◌==◌, if◌then◌else◌, List, [], ◌∷◌, filter, get_or, length, take, Result, Ok, Err, OnOk, OnErr, refl, sym, ap, subst, ◌∙◌, arith, All, AllByRecursion, ltb-false, ltb-true, take_more, AllPairs-cons, AllPairs-filter, fold-append, ChannelId, Each, each_so, Pair, AllocError, KeptChannel, KeptRows, AreInOrder, all_made, channel_before, link_before, link_of, made, Rise, with_row, Change, Put, Drop, Link, Unlink}
+use Rattle.mum_keeper.proofs.{Changing.IsLesserFirst, Changing.channel_order, Changing.each_of, Changing.has_ends, Changing.has_number, Changing.link_order, Merging.IsAfter, Merging.IsOrder, Merging.Rises, Merging.rises}
 
 -- ---- a row more
 

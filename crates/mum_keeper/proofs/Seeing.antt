@@ -1,29 +1,8 @@
 -- Rows that were kept of a state that a pass saw.
-use Rattle.std.proofs.Common.{◌≡◌, ℕ, true, List, ap, subst, sym, ◌∙◌, Option, Some, None, Result, Ok}
-use Rattle.std.specs.declared.alloc.AllocError.{AllocError}
-use Rattle.std.proofs.lemmas.Bool.{eqb-true, true≢false}
-use Rattle.std.proofs.lemmas.List.Sums.{fold-append}
-use mathlib.Core.List.{IsPrefix}
-use Rattle.mum_state.specs.declared.edit.Edit.{Edit}
-use Rattle.mum_state.specs.After.{led_to}
-use Rattle.mum_state.specs.Applied.{applied}
-use Rattle.mum_state.specs.Proper.{IsProper}
-use Rattle.mum_state.specs.State.{StateValue}
-use Rattle.mum_published.specs.Calls.{Learnt, MayMeet, state_of}
-use Rattle.mum_published.specs.Facts.{Opening, PassFacts}
-use Rattle.mum_published.proofs.Prefixes.{prefix_self, prefix_trans}
-use Rattle.mum_kept.specs.Kept.{kept}
-use Rattle.mum_kept.specs.Standing.{HavePoliciesOf}
-use Rattle.mum_kept.specs.declared.rows.KeptChannel.{KeptChannel}
-use Rattle.mum_kept.specs.declared.rows.KeptRows.{KeptRows}
-use Rattle.mum_kept.proofs.Standing.{kept_have}
-use Rattle.mum_keeper.specs.Look.{AreSeen, AreSeenAt, Looks, MayShare, is_count, policies_left}
-use Rattle.mum_keeper.specs.Mirror.{rows_left}
-use Rattle.mum_keeper.specs.declared.keeper.KeepEnd.{KeepEnd}
+use Rattle.mum_keeper.proofs.Common.{◌≡◌, ℕ, true, List, ap, subst, sym, ◌∙◌, Option, Some, None, Result, Ok, AllocError, eqb-true, true≢false, fold-append, IsPrefix, Edit, led_to, applied, IsProper, StateValue, Learnt, MayMeet, state_of, Opening, PassFacts, prefix_self, prefix_trans, kept, HavePoliciesOf, KeptChannel, KeptRows, kept_have, AreSeen, AreSeenAt, Looks, MayShare, is_count, policies_left, rows_left, KeepEnd, Found}
 use Rattle.mum_keeper.specs.declared.keeper.KeepEnd.TheVariants as ends
-use Rattle.mum_keeper.specs.declared.look.Found.{Found}
 
--- the edits behind those that a list begins with lead on from where these lead
+-- the edits after those that a list begins with lead on from where these lead
 leads_on : (state : StateValue) (edits all : List Edit) (front : IsPrefix edits all) → led_to state all ≡ led_to (led_to state edits) front.0
 leads_on state edits all front = ap (led_to state) (sym front.1) ∙ fold-append applied state edits front.0
 
@@ -57,7 +36,7 @@ seen_stays old new rows (Some count) opening longer seen = record {
   counted = seen.counted ∙ ap (λ (o : Opening). (state_of o seen.edits).counts.policy) (sym opening);
 }
 
--- what was seen before a look is so behind it
+-- what was seen before a look is so after it
 pub looked_seen : (old new : PassFacts) (rows : KeptRows) (policies : Option ℕ) (found : Result Found AllocError) → AreSeenAt old rows policies
     → Looks old found new → AreSeenAt new rows policies
 looked_seen old new rows policies found seen looks =
@@ -84,7 +63,7 @@ left_by ends.Kept pass rows now before count seen found = found
 left_by ends.Failed pass rows now before count seen found = seen
 left_by ends.NoMemory pass rows now before count seen found = seen
 
--- after a look and the comparison behind it
+-- after a look and the comparison after it
 pub compared_seen : (old new : PassFacts) (rows left : KeptRows) (found : Found) (end : KeepEnd) (before after : Option ℕ) → AreSeenAt old rows before
     → Looks old (Ok found) new → left ≡ rows_left end rows found.rows → after ≡ policies_left end before found.policies → AreSeenAt new left after
 compared_seen old new rows left found end before after seen looks is also =

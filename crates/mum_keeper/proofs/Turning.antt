@@ -1,29 +1,6 @@
 -- What comes of the turns of a store.
-use Rattle.std.proofs.Common.{◌≡◌, ◌⊎◌, inl, inr, ⊎_elim, zero, suc, Bool, true, false, List, [], ◌∷◌, ◌++◌, length, length-append, Option, Some, None, IsTrue, refl, sym, ap, subst, ◌∙◌, arith}
-use Rattle.std.specs.Prelude.{◌↔◌, Contains, IfSome, is_some}
-use Rattle.std.specs.List.{AllByRecursion}
-use Rattle.std.specs.Option.{option_map}
-use Rattle.std.proofs.lemmas.List.Elements.{Contains-append_left, Contains-push}
-use mathlib.Core.List.{IsPrefix}
-use Rattle.mum_crew.specs.Turns.{TurnsTo}
-use Rattle.mum_crew.specs.declared.role.Turn.{Turn}
+use Rattle.mum_keeper.proofs.Common.{◌≡◌, ◌⊎◌, inl, inr, ⊎_elim, zero, suc, Bool, true, false, List, [], ◌∷◌, ◌++◌, length, length-append, Option, Some, None, IsTrue, refl, sym, ap, subst, ◌∙◌, arith, ◌↔◌, Contains, IfSome, is_some, AllByRecursion, option_map, Contains-append_left, Contains-push, IsPrefix, TurnsTo, Turn, kept, KeptRows, one_more, prefix_self, prefix_trans, ask_at, state_of, NoteFacts, Opening, PassFacts, AskAt, StateValue, Edit, BellFacts, NoMore, Noted, Ring, TakesRing, AreRowsOf, KeeperFacts, store_ask, Compares, MirrorFacts, Heeds, HeedsGiven, Observes, Settles, StoreFacts, StoreTurned, turn_of, CameTo, HasTurned, HoldsKept, IsStoreAsk, ShowsTo, KeepEnd}
 use Rattle.mum_crew.specs.declared.role.Turn.TheVariants as turns
-use Rattle.mum_kept.specs.Kept.{kept}
-use Rattle.mum_kept.specs.declared.rows.KeptRows.{KeptRows}
-use Rattle.mum_outbox.specs.Calls.{one_more}
-use Rattle.mum_published.proofs.Prefixes.{prefix_self, prefix_trans}
-use Rattle.mum_published.specs.Calls.{ask_at, state_of}
-use Rattle.mum_published.specs.Facts.{NoteFacts, Opening, PassFacts}
-use Rattle.mum_published.specs.declared.rule.AskAt.{AskAt}
-use Rattle.mum_state.specs.State.{StateValue}
-use Rattle.mum_state.specs.declared.edit.Edit.{Edit}
-use Rattle.mum_keeper.specs.Bell.{BellFacts, NoMore, Noted, Ring, TakesRing}
-use Rattle.mum_keeper.specs.Keeping.{AreRowsOf, KeeperFacts}
-use Rattle.mum_keeper.specs.Look.{store_ask}
-use Rattle.mum_keeper.specs.Mirror.{Compares, MirrorFacts}
-use Rattle.mum_keeper.specs.Store.{Heeds, HeedsGiven, Observes, Settles, StoreFacts, StoreTurned, turn_of}
-use Rattle.mum_keeper.specs.Turns.{CameTo, HasTurned, HoldsKept, IsStoreAsk, ShowsTo}
-use Rattle.mum_keeper.specs.declared.keeper.KeepEnd.{KeepEnd}
 use Rattle.mum_keeper.specs.declared.keeper.KeepEnd.TheVariants as ends
 
 -- where a value is known after it was set, it is this one

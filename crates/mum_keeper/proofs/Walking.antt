@@ -1,11 +1,5 @@
 -- Steps along two lists of rows: what one of them adds, and what is left.
-use Rattle.std.proofs.Common.{◌≡◌, ℕ, zero, suc, ◌+◌, ◌<◌, ◌≤◌, Bool, true, false, if◌then◌else◌, List, [], ◌∷◌, ◌++◌, append_assoc, drop, map, set, length, get_or, Option, Some, None, refl, sym, ap, subst, ◌∙◌, arith}
-use Rattle.std.specs.Prelude.{slice_get}
-use Rattle.std.specs.List.{insert}
-use Rattle.std.proofs.lemmas.Option.{slice_get_within}
-use Rattle.std.proofs.lemmas.List.{append-nil, drop-drop, drop_all, map-append}
-use Rattle.mum_keeper.specs.Order.{any_like, is_alone, is_new, is_taken, others_done, place_of, rows_done, step_of, unmatched, with_row}
-use Rattle.mum_keeper.specs.declared.merge.Step.{Step}
+use Rattle.mum_keeper.proofs.Common.{◌≡◌, ℕ, zero, suc, ◌+◌, ◌<◌, ◌≤◌, Bool, true, false, if◌then◌else◌, List, [], ◌∷◌, ◌++◌, append_assoc, drop, map, set, length, get_or, Option, Some, None, refl, sym, ap, subst, ◌∙◌, arith, slice_get, insert, slice_get_within, append-nil, drop-drop, drop_all, map-append, any_like, is_alone, is_new, is_taken, others_done, place_of, rows_done, step_of, unmatched, with_row, Step}
 use Rattle.mum_keeper.specs.declared.merge.Step.TheVariants as steps
 
 -- ---- lists from a place on

@@ -1,8 +1,7 @@
 -- The bell of a store as whoever publishes sees it, as plain data, and what is offered to it.
 use Rattle.std.specs.Prelude.{◌≡◌, ℕ, Bool, true, false, List, [], ◌∷◌, ◌++◌, map, Option, Some, None, MatchBool}
 use Rattle.std.specs.Option.{option_map, option_map_or}
-use Rattle.mum_outbox.specs.Calls.{one_more}
-use Rattle.mum_outbox.specs.Facts.{PassFacts, QueueFacts, QueueId}
+use Rattle.mum_outbox.specs.{Calls.one_more, Facts.PassFacts, Facts.QueueFacts, Facts.QueueId}
 use Rattle.mum_published.specs.Facts.{NoteFacts}
 use Rattle.mum_keeper.specs.Bell.{NoMore, Noted, Ring, ring_of}
 use Rattle.mum_keeper.specs.declared.item.StoreItem.{StoreItem}
@@ -24,7 +23,8 @@ abbrev pub queue_of : Option QueueFacts → Option QueueId
 queue_of store = option_map (λ (bell : QueueFacts). bell.queue) store
 
 abbrev pub archive_facts : {N : Type 0} → PassFacts (StoreItem N) → Bool → ArchiveFacts
-archive_facts pass is_told = record { queue = pass.queue; put = map ring_of pass.offered; full = pass.full; is_told = is_told }
+archive_facts pass is_told =
+    record { queue = pass.queue; put = map ring_of pass.offered; full = pass.full; is_told = is_told }
 
 -- ---- one bell
 

@@ -1,7 +1,6 @@
 -- What the bell of a store carries, as plain data, and what the store took from it.
 use Rattle.std.specs.Prelude.{◌≡◌, ℕ, List, [], ◌∷◌, ◌++◌, map, Option, Some, None}
-use Rattle.mum_outbox.specs.Calls.{one_more}
-use Rattle.mum_outbox.specs.Facts.{PassFacts, QueueId}
+use Rattle.mum_outbox.specs.{Calls.one_more, Facts.PassFacts, Facts.QueueId}
 use Rattle.mum_outbox.specs.declared.rule.Tagged.{Tagged}
 use Rattle.mum_published.specs.Facts.{NoteFacts}
 use Rattle.mum_keeper.specs.declared.item.StoreItem.{StoreItem}

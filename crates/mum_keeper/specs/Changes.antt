@@ -1,13 +1,10 @@
 -- Changes of kept rows, and those that lead from some rows to others.
 use Rattle.std.specs.Prelude.{◌≡◌, ◌≤◌, ◌==◌, ◌&&◌, nat_lt, not, Bool, List, ◌++◌, filter, fold, map, if◌then◌else◌}
-use Rattle.std.specs.List.{AllByRecursion}
-use Rattle.std.specs.Ordering.{int_eq}
-use Rattle.std.specs.Str.{bytes_eq}
+use Rattle.std.specs.{List.AllByRecursion, Ordering.int_eq, Str.bytes_eq}
 use Rattle.mum_base.specs.declared.number.ChannelId.{ChannelId}
 use Rattle.mum_tree.specs.State.{Ordered, Pair, is_above, is_pair}
 use Rattle.mum_tree.specs.declared.channel.ChannelInfo.{ChannelInfo}
-use Rattle.mum_kept.specs.declared.rows.KeptChannel.{KeptChannel}
-use Rattle.mum_kept.specs.declared.rows.KeptRows.{KeptRows}
+use Rattle.mum_kept.specs.declared.rows.{KeptChannel.KeptChannel, KeptRows.KeptRows}
 use Rattle.mum_keeper.specs.Order.{Rise, any_like, unmatched, with_row}
 use Rattle.mum_keeper.specs.declared.change.Change.{Change}
 use Rattle.mum_keeper.specs.declared.change.Change.TheVariants as changes
@@ -56,7 +53,8 @@ all_made list rows = fold (λ so_far change. made change so_far) rows list
 -- two channels have the same description, position and user limit
 abbrev pub is_same_info : ChannelInfo → ChannelInfo → Bool
 is_same_info info other =
-    bytes_eq info.description other.description && int_eq info.position other.position && (info.max_users == other.max_users)
+    bytes_eq info.description other.description && int_eq info.position other.position
+    && (info.max_users == other.max_users)
 
 -- two rows of channels of one number are the same
 abbrev pub is_same_channel : KeptChannel → KeptChannel → Bool

@@ -4,10 +4,8 @@ use Rattle.std.specs.Option.{option_map}
 use Rattle.mum_io.specs.Counts.{Rose}
 use Rattle.mum_kept.specs.declared.rows.KeptRows.{KeptRows}
 use Rattle.mum_keeper.specs.Changes.{AreInOrder, all_made}
-use Rattle.mum_keeper.specs.declared.change.Change.{Change}
-use Rattle.mum_keeper.specs.declared.keeper.KeepEnd.{KeepEnd}
+use Rattle.mum_keeper.specs.declared.{change.Change.Change, keeper.KeepEnd.KeepEnd, keeper.Loaded.Loaded}
 use Rattle.mum_keeper.specs.declared.keeper.KeepEnd.TheVariants as ends
-use Rattle.mum_keeper.specs.declared.keeper.Loaded.{Loaded}
 use Rattle.mum_keeper.specs.declared.keeper.Loaded.TheVariants as loaded
 
 -- a call of a keeper, with what it was handed

@@ -1,21 +1,17 @@
 -- What a look of a store asks, and what it finds.
+use mathlib.Core.List.{IsPrefix}
 use Rattle.std.specs.Prelude.{◌≡◌, ◌==◌, ℕ, Bool, false, List, [], Option, Some, None, Result, Ok, Err, ⊤}
 use Rattle.std.specs.Option.{option_map_or}
-use mathlib.Core.List.{IsPrefix}
 use Rattle.std.specs.declared.alloc.AllocError.{AllocError}
-use Rattle.mum_kept.specs.Kept.{kept}
-use Rattle.mum_kept.specs.Standing.{HavePoliciesOf}
-use Rattle.mum_kept.specs.declared.rows.KeptRows.{KeptRows}
-use Rattle.mum_published.specs.Calls.{MayMeet, looked, state_of}
-use Rattle.mum_published.specs.Facts.{PassFacts}
-use Rattle.mum_published.specs.declared.ask.Ask.{Ask}
-use Rattle.mum_state.specs.Proper.{IsProper}
-use Rattle.mum_state.specs.State.{StateValue}
+use Rattle.mum_state.specs.{Proper.IsProper, State.StateValue}
 use Rattle.mum_state.specs.declared.edit.Edit.{Edit}
+use Rattle.mum_published.specs.{Calls.MayMeet, Calls.looked, Calls.state_of, Facts.PassFacts}
+use Rattle.mum_published.specs.declared.ask.Ask.{Ask}
+use Rattle.mum_kept.specs.{Kept.kept, Standing.HavePoliciesOf}
+use Rattle.mum_kept.specs.declared.rows.KeptRows.{KeptRows}
 use Rattle.mum_keeper.specs.Changes.{AreInOrder}
-use Rattle.mum_keeper.specs.declared.keeper.KeepEnd.{KeepEnd}
+use Rattle.mum_keeper.specs.declared.{keeper.KeepEnd.KeepEnd, look.Found.Found}
 use Rattle.mum_keeper.specs.declared.keeper.KeepEnd.TheVariants as ends
-use Rattle.mum_keeper.specs.declared.look.Found.{Found}
 
 -- nobody speaks, to nobody, nothing
 abbrev pub store_ask : Ask

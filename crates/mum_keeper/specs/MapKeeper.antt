@@ -1,14 +1,10 @@
 -- A keeper in memory: what it has, and what its calls leave.
 use Rattle.std.specs.Prelude.{ℕ, List, [], Option, Some, None}
-use Rattle.mum_io.specs.Calls.{CallNumbers, after_call, before_calls}
-use Rattle.mum_io.specs.Counts.{next_count}
+use Rattle.mum_io.specs.{Calls.CallNumbers, Calls.after_call, Calls.before_calls, Counts.next_count}
 use Rattle.mum_kept.specs.declared.rows.KeptRows.{KeptRows}
-use Rattle.mum_keeper.specs.Changes.{all_made}
-use Rattle.mum_keeper.specs.Keeping.{KeeperFacts}
-use Rattle.mum_keeper.specs.declared.change.Change.{Change}
-use Rattle.mum_keeper.specs.declared.keeper.KeepEnd.{KeepEnd}
+use Rattle.mum_keeper.specs.{Changes.all_made, Keeping.KeeperFacts}
+use Rattle.mum_keeper.specs.declared.{change.Change.Change, keeper.KeepEnd.KeepEnd, keeper.Loaded.Loaded}
 use Rattle.mum_keeper.specs.declared.keeper.KeepEnd.TheVariants as ends
-use Rattle.mum_keeper.specs.declared.keeper.Loaded.{Loaded}
 use Rattle.mum_keeper.specs.declared.keeper.Loaded.TheVariants as loaded
 
 pub record KeeperState : Type 0 where
@@ -46,6 +42,7 @@ after_load keeper loaded.Failed = failed keeper
 after_load keeper loaded.NoMemory = called keeper
 
 abbrev pub after_keep : KeeperState → List Change → KeepEnd → KeeperState
-after_keep keeper changes ends.Kept = record keeper { calls = after_call keeper.calls; rows = all_made changes keeper.rows }
+after_keep keeper changes ends.Kept =
+    record keeper { calls = after_call keeper.calls; rows = all_made changes keeper.rows }
 after_keep keeper changes ends.Failed = failed keeper
 after_keep keeper changes ends.NoMemory = called keeper

@@ -5,10 +5,8 @@ use Rattle.mum_io.specs.Counts.{Rose}
 use Rattle.mum_kept.specs.declared.rows.KeptRows.{KeptRows}
 use Rattle.mum_keeper.specs.Changes.{difference}
 use Rattle.mum_keeper.specs.Keeping.{AreRowsOf, KeepCall, KeeperFacts, with_call}
-use Rattle.mum_keeper.specs.declared.change.Change.{Change}
-use Rattle.mum_keeper.specs.declared.keeper.KeepEnd.{KeepEnd}
+use Rattle.mum_keeper.specs.declared.{change.Change.Change, keeper.KeepEnd.KeepEnd, naming.KeeperOpening.KeeperOpening}
 use Rattle.mum_keeper.specs.declared.keeper.KeepEnd.TheVariants as ends
-use Rattle.mum_keeper.specs.declared.naming.KeeperOpening.{KeeperOpening}
 
 -- the keeper; the rows that its last Kept left, or that it was opened with; whether a call failed since then; and
 -- whether memory ran out since then

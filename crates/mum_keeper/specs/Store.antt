@@ -1,19 +1,18 @@
 -- The store, and a turn of it.
 use Rattle.std.specs.Prelude.{◌≡◌, Bool, true, false, List, is_some, Option, Some, None}
-use Rattle.mum_crew.specs.declared.role.Turn.{Turn}
-use Rattle.mum_crew.specs.declared.role.Turn.TheVariants as turns
 use Rattle.mum_outbox.specs.Facts.{QueueId}
-use Rattle.mum_kept.specs.Kept.{kept}
-use Rattle.mum_kept.specs.declared.rows.KeptRows.{KeptRows}
-use Rattle.mum_published.specs.Calls.{Learnt, MayMeet, looked, state_of}
-use Rattle.mum_published.specs.Facts.{PassFacts}
+use Rattle.mum_crew.specs.declared.role.Turn.{Turn}
 use Rattle.mum_state.specs.State.{StateValue}
 use Rattle.mum_state.specs.declared.edit.Edit.{Edit}
+use Rattle.mum_published.specs.Calls.{Learnt, MayMeet, looked, state_of}
+use Rattle.mum_published.specs.Facts.{PassFacts}
+use Rattle.mum_kept.specs.Kept.{kept}
+use Rattle.mum_kept.specs.declared.rows.KeptRows.{KeptRows}
 use Rattle.mum_keeper.specs.Bell.{BellFacts, NoMore, Noted, Ring, TakesRing, new_bell}
-use Rattle.mum_keeper.specs.Keeping.{KeeperFacts}
-use Rattle.mum_keeper.specs.Look.{store_ask}
+use Rattle.mum_keeper.specs.{Keeping.KeeperFacts, Look.store_ask}
 use Rattle.mum_keeper.specs.Mirror.{Compares, MirrorFacts, new_mirror}
 use Rattle.mum_keeper.specs.declared.keeper.KeepEnd.{KeepEnd}
+use Rattle.mum_crew.specs.declared.role.Turn.TheVariants as turns
 
 -- its pass, its bell, its keeper with the rows that are compared, and whether it took that no note comes any more
 pub record StoreFacts (P : Type 0) : Type 0 where

@@ -1,20 +1,17 @@
 -- What came of the turns of a store, and of its settling.
-use Rattle.std.specs.Prelude.{◌≡◌, List, [], ◌∷◌, ◌++◌, IfSome, IsTrue}
 use mathlib.Core.List.{IsPrefix}
+use Rattle.std.specs.Prelude.{◌≡◌, List, [], ◌∷◌, ◌++◌, IfSome, IsTrue}
+use Rattle.mum_io.specs.Counts.{Rose}
 use Rattle.mum_outbox.specs.Facts.{QueueId}
 use Rattle.mum_crew.specs.Turns.{TurnsTo}
 use Rattle.mum_crew.specs.declared.role.Turn.{Turn}
-use Rattle.mum_io.specs.Counts.{Rose}
-use Rattle.mum_kept.specs.Kept.{kept}
-use Rattle.mum_kept.specs.declared.rows.KeptRows.{KeptRows}
-use Rattle.mum_published.specs.Calls.{ask_at, state_of}
-use Rattle.mum_published.specs.Facts.{PassFacts}
-use Rattle.mum_published.specs.declared.rule.AskAt.{AskAt}
 use Rattle.mum_state.specs.State.{StateValue}
 use Rattle.mum_state.specs.declared.edit.Edit.{Edit}
-use Rattle.mum_keeper.specs.Keeping.{AreRowsOf, KeeperFacts}
-use Rattle.mum_keeper.specs.Look.{store_ask}
-use Rattle.mum_keeper.specs.Mirror.{MirrorFacts}
+use Rattle.mum_published.specs.{Calls.ask_at, Calls.state_of, Facts.PassFacts}
+use Rattle.mum_published.specs.declared.rule.AskAt.{AskAt}
+use Rattle.mum_kept.specs.Kept.{kept}
+use Rattle.mum_kept.specs.declared.rows.KeptRows.{KeptRows}
+use Rattle.mum_keeper.specs.{Keeping.AreRowsOf, Keeping.KeeperFacts, Look.store_ask, Mirror.MirrorFacts}
 use Rattle.mum_keeper.specs.Store.{IsOpened, StoreFacts, StoreTurned}
 use Rattle.mum_keeper.specs.declared.keeper.KeepEnd.{KeepEnd}
 use Rattle.mum_keeper.specs.declared.keeper.KeepEnd.TheVariants as ends

@@ -39,7 +39,7 @@ impl<N: Naming> StoreNote<N> {
         }
     }
 
-    /// A pass of the same `open` learns it.
+    // A pass of the same `open` learns it.
     pub(crate) fn teach(&self, pass: &mut Pass)
         requires { pass.old.opening ≡ N.opening }
         ensures { Learnt pass.old self.now.edits pass.new }
@@ -56,7 +56,7 @@ pub enum StoreItem<N: Naming> {
     Last,
 }
 
-/// A bell with the store's pass of it. A contract sees which queue it is, and what was taken.
+// A bell with the store's pass of it. A contract sees which queue it is, and what was taken.
 #[derive(Drop)]
 pub(crate) struct BellEnd<N: Naming> {
     bell: Bell<StoreItem<N>>,
@@ -75,7 +75,7 @@ impl<N: Naming> Model for BellEnd<N> {
 }
 
 impl<N: Naming> BellEnd<N> {
-    /// A bell, with a new pass of it.
+    // A bell, with a new pass of it.
     pub(crate) fn new(bell: Bell<StoreItem<N>>) -> BellEnd<N>
         ensures { result ≡ new_bell bell.queue }
     {
@@ -84,7 +84,7 @@ impl<N: Naming> BellEnd<N> {
         BellEnd { bell, pass }
     }
 
-    /// Takes what is next, if anything is there.
+    // Takes what is next, if anything is there.
     pub(crate) fn take<R: Wait>(&mut self, rt: &R) -> Option<StoreItem<N>>
         ensures { TakesRing self.old (option_map ring_of result) self.new }
     {

@@ -30,7 +30,7 @@ fn store_ask() -> Ask
     }
 }
 
-/// The rows that are kept of a state. They are in order.
+// The rows that are kept of a state. They are in order.
 pub(crate) fn ordered_rows(alloc: Global, state: &State) -> Result<KeptRows, OutOfMemory>
     ensures { AreKeptRows state.now result }
 {
@@ -82,8 +82,8 @@ fn find_in(
     Ok(Found { rows, policies })
 }
 
-/// One look. The policies of the earlier rows are shared, where they are those of a state that was seen with this
-/// policy count, and the count is still the same.
+// One look. The policies of the earlier rows are shared, where they are those of a state that was seen with this
+// policy count, and the count is still the same.
 pub(crate) fn look_once<R: Wait>(
     rt: &R,
     alloc: Global,

@@ -16,7 +16,7 @@ use std::alloc::Global;
 pub enum Step {
     /// The first is before the other, or there is no other.
     Alone,
-    /// The first is behind the other.
+    /// The first is after the other.
     Behind,
     /// Both are one row.
     Same,

@@ -14,7 +14,7 @@ use std::alloc::Global;
 use std::marker::{Model, PhantomData};
 use std::mem::{drop, replace};
 
-/// A keeper, and the rows to which it was brought last.
+// A keeper, and the rows to which it was brought last.
 #[derive(Drop)]
 pub(crate) struct Mirror<P: Keeper, N: Keeping> {
     keeper: P,
@@ -83,7 +83,7 @@ fn has_starved(end: KeepEnd, no_memory: bool) -> bool
 }
 
 impl<P: Keeper, N: Keeping> Mirror<P, N> {
-    /// A keeper that has these rows, where its rows are known.
+    // A keeper that has these rows, where its rows are known.
     pub(crate) fn new(keeper: P, rows: KeptRows) -> Mirror<P, N>
         requires rows { AreRowsOf (P.facts keeper).rows rows }
         requires keeper { opening_of (P.facts keeper) ≡ N.keeper }
@@ -98,14 +98,14 @@ impl<P: Keeper, N: Keeping> Mirror<P, N> {
         }
     }
 
-    /// The rows to which the keeper was brought last.
+    // The rows to which the keeper was brought last.
     pub(crate) fn rows(&self) -> &KeptRows
         ensures { result.now ≡ self.now.rows }
     {
         &self.rows
     }
 
-    /// Brings the keeper to these rows, where they differ from those to which it was brought last.
+    // Brings the keeper to these rows, where they differ from those to which it was brought last.
     pub(crate) fn compare(&mut self, alloc: Global, now: KeptRows) -> KeepEnd
         requires { AreInOrder now }
         ensures { Compares P.facts self.old now result self.new }
@@ -117,7 +117,7 @@ impl<P: Keeper, N: Keeping> Mirror<P, N> {
         end
     }
 
-    /// There was no memory for the rows that were to be compared.
+    // There was no memory for the rows that were to be compared.
     pub(crate) fn starve(&mut self) -> KeepEnd
         ensures end { result ≡ KeepEnd.NoMemory }
         ensures starved { self.new ≡ record self.old { no_memory = true } }
@@ -126,7 +126,7 @@ impl<P: Keeper, N: Keeping> Mirror<P, N> {
         KeepEnd::NoMemory
     }
 
-    /// The keeper, whether it failed, and whether memory ran out.
+    // The keeper, whether it failed, and whether memory ran out.
     pub(crate) fn close(self) -> (P, bool, bool)
         ensures keeper { result.0 ≡ self.keeper }
         ensures failed { result.1 ≡ self.failed }

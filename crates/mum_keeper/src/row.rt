@@ -10,7 +10,7 @@ use mum_base::{ChannelId, OutOfMemory};
 use mum_kept::KeptChannel;
 use mum_tree::ChannelInfo;
 
-/// A row of a list that rises.
+// A row of a list that rises.
 pub(crate) trait Row: Drop {
     ghost before: { Self → Self → Bool };
 
@@ -37,7 +37,7 @@ pub(crate) trait Row: Drop {
         ensures { IfOk result (λ change. change ≡ come self.now) };
 }
 
-/// The row of a channel once more, without a copy of its texts.
+// The row of a channel once more, without a copy of its texts.
 pub(crate) fn share(channel: &KeptChannel) -> Result<KeptChannel, OutOfMemory>
     ensures { IfOk result (λ shared. shared ≡ channel.now) }
 {

@@ -12,7 +12,7 @@ use mum_kept::{KeptChannel, KeptRows};
 use std::alloc::Global;
 use std::marker::Model;
 
-/// Rows in memory, in order.
+// Rows in memory, in order.
 #[derive(Drop)]
 pub(crate) struct Tables {
     channels: Vec<KeptChannel>,
@@ -103,7 +103,7 @@ fn copies_of(alloc: Global, channels: &[KeptChannel]) -> Result<Vec<KeptChannel>
 }
 
 impl Tables {
-    /// No rows.
+    // No rows.
     pub(crate) fn new(alloc: Global) -> Tables
         ensures { result ≡ no_rows }
     {
@@ -113,21 +113,21 @@ impl Tables {
         }
     }
 
-    /// The channels, in order of number.
+    // The channels, in order of number.
     pub(crate) fn channels(&self) -> &[KeptChannel]
         ensures { result.now ≡ self.now.channels }
     {
         self.channels.as_slice()
     }
 
-    /// The links, in order.
+    // The links, in order.
     pub(crate) fn links(&self) -> &[(ChannelId, ChannelId)]
         ensures { result.now ≡ self.now.links }
     {
         self.links.as_slice()
     }
 
-    /// The rows once more.
+    // The rows once more.
     pub(crate) fn rows(&self, alloc: Global) -> Result<KeptRows, OutOfMemory>
         ensures rows { IfOk result (λ rows. rows ≡ self.now) }
         ensures order { AreInOrder self.now }
@@ -168,7 +168,7 @@ impl Tables {
         }
     }
 
-    /// The rows after these changes, in tables of their own.
+    // The rows after these changes, in tables of their own.
     pub(crate) fn changed(&self, alloc: Global, changes: &[Change]) -> Result<Tables, OutOfMemory>
         ensures { IfOk result (λ after. after ≡ all_made changes.now self.now) }
     {

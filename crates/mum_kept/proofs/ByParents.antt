@@ -1,25 +1,6 @@
 -- Kept channels, sorted by their parents, are the children of each.
-use Rattle.std.proofs.Common.{◌≡◌, ℕ, zero, suc, ◌+◌, ◌-◌, ◌<◌, ◌≤◌, ◌==◌, ◌&&◌, Bool, true, false, not, nat_lt, ltb, List, [], ◌∷◌, ◌++◌, length, map, filter, drop, get_or, Option, Some, refl, sym, ap, ◌∙◌, append_assoc, arith}
-use Rattle.std.specs.List.{flat_map}
-use Rattle.std.specs.List.Sorted.{IsNonDecreasingBy, IsPartitionedBy, IsStableByKey, ties}
-use Rattle.std.specs.Option.{option_map_or}
-use Rattle.std.specs.Ordering.{is_lt, nat_cmp}
-use Rattle.std.proofs.lemmas.Bool.{eq-eqb, eqb-true, lt-ltb, ltb-true}
-use Rattle.std.proofs.lemmas.Bool.Decides.{nat_tests}
-use Rattle.std.proofs.lemmas.List.{get_or-drop, length-drop}
-use Rattle.std.proofs.lemmas.List.Folds.{flat_map-map}
-use Rattle.mum_base.specs.declared.number.ChannelId.{ChannelId}
-use Rattle.mum_tree.specs.declared.channel.Row.{Row}
-use Rattle.mum_tree.specs.Refusals.{parent_of}
-use Rattle.mum_tree.specs.Rows.{is_root, row_of, Rise}
-use Rattle.mum_tree.specs.State.{Pair, TreeState, ends_from, starts_at}
-use Rattle.mum_state.proofs.Each.{Each, each_so}
-use Rattle.mum_notify.specs.Channels.{children, family, is_child}
-use Rattle.mum_notify.proofs.ByParent.{family_alike, filter_alike}
-use Rattle.mum_kept.specs.declared.rows.KeptChannel.{KeptChannel}
-use Rattle.mum_kept.specs.Rows.{children_of, tree_of, tree_row, tree_rows}
-use Rattle.mum_kept.proofs.Lasting.{found_each}
-use Rattle.mum_kept.proofs.Numbered.{each_unmapped}
+use Rattle.mum_kept.proofs.Common.{◌≡◌, ℕ, zero, suc, ◌+◌, ◌-◌, ◌<◌, ◌≤◌, ◌==◌, ◌&&◌, Bool, true, false, not, nat_lt, ltb, List, [], ◌∷◌, ◌++◌, length, map, filter, drop, get_or, Option, Some, refl, sym, ap, ◌∙◌, append_assoc, arith, flat_map, IsNonDecreasingBy, IsPartitionedBy, IsStableByKey, ties, option_map_or, is_lt, nat_cmp, eq-eqb, eqb-true, lt-ltb, ltb-true, nat_tests, get_or-drop, length-drop, flat_map-map, ChannelId, Row, parent_of, is_root, row_of, Rise, Pair, TreeState, ends_from, starts_at, Each, each_so, children, family, is_child, family_alike, filter_alike, KeptChannel, children_of, tree_of, tree_row, tree_rows}
+use Rattle.mum_kept.proofs.{Lasting.found_each, Numbered.each_unmapped}
 
 -- the channels listed under one
 abbrev pub kids_in : List Pair → ChannelId → List ChannelId
@@ -76,7 +57,7 @@ children_are_sorted channels parent listed sorted rise all stable =
     (filter_alike (starts_at parent) tied (under_ties parent) sorted ∙ stable (parent, parent) ∙ filter_alike tied (starts_at parent) (λ pair. sym (under_ties parent pair)) listed)
     ∙ ap (ends_from parent) all ∙ kids_from (tree_of channels) parent channels (parents_found channels rise)
 
--- ---- those under one channel stand together
+-- ---- those under one channel are together
 
 pub starts_parted : (listed : List Pair) (parent : ChannelId) → IsNonDecreasingBy (λ (pair : Pair). pair.0.0) listed → IsPartitionedBy (λ (pair : Pair). ltb pair.0.0 parent.0) listed
 starts_parted listed parent sorted i j d below within lower = let rises = sorted i j d below within in lt-ltb _ _ (omega (arith, ltb-true _ _ lower))
@@ -99,7 +80,7 @@ unfolding family
 family_of kids zero id some = absurd (omega arith)
 family_of kids (suc levels) id some = let less : suc levels - 1 ≡ levels = omega arith in ap (λ n. id ∷ flat_map (family kids n) (kids id)) (sym less)
 
--- where those of all listed under a channel come behind it, its family does
+-- where those of all listed under a channel come after it, its family does
 pub family_told : (listed : List Pair) (levels : ℕ) (id : ChannelId) (under : List Pair) (old now : List ChannelId) → 0 < levels → under ≡ filter (starts_at id) listed
     → now ≡ (old ++ id ∷ []) ++ flat_map (λ (child : Pair). family (kids_in listed) (levels - 1) child.1) under → now ≡ old ++ family (kids_in listed) levels id
 family_told listed levels id under old now some is told =

@@ -1,17 +1,5 @@
 -- How many links each channel has, counted link by link.
-use Rattle.std.proofs.Common.{◌≡◌, ℕ, zero, suc, ◌+◌, ◌<◌, ◌≤◌, ◌==◌, ◌&&◌, ◌||◌, ltb, Bool, true, false, cond, List, [], ◌∷◌, length, take, get_or, Option, Some, refl, sym, ap, subst, ◌∙◌, arith}
-use Rattle.std.specs.Prelude.{IsTrue, ◌↔◌, nat_eq, unwrap_or}
-use Rattle.std.specs.List.{All, IsAllAdjacentAnswer, count_by, list_all}
-use Rattle.std.specs.Map.{lookup}
-use Rattle.std.proofs.lemmas.Bool.{and_from, and_parts, eq-eqb, eqb-true, false≢true, lt-ltb, ltb-true, ne_eqb}
-use Rattle.std.proofs.lemmas.Bool.Decides.{nat_tests}
-use Rattle.std.proofs.lemmas.List.{get_or_default, take_all}
-use Rattle.std.proofs.lemmas.List.Sums.{count_by_more_no, count_by_more_yes, sum_by-take-le}
-use Rattle.mum_base.specs.declared.number.ChannelId.{ChannelId}
-use Rattle.mum_tree.specs.declared.channel.Row.{Row}
-use Rattle.mum_tree.specs.Rows.{is_there}
-use Rattle.mum_tree.specs.State.{Ordered, Pair, is_above}
-use Rattle.mum_kept.specs.Good.{JoinsTwo, count_at, is_end, is_link_of, joins_two}
+use Rattle.mum_kept.proofs.Common.{◌≡◌, ℕ, zero, suc, ◌+◌, ◌<◌, ◌≤◌, ◌==◌, ◌&&◌, ◌||◌, ltb, Bool, true, false, cond, List, [], ◌∷◌, length, take, get_or, Option, Some, refl, sym, ap, subst, ◌∙◌, arith, IsTrue, ◌↔◌, nat_eq, unwrap_or, All, IsAllAdjacentAnswer, count_by, list_all, lookup, and_from, and_parts, eq-eqb, eqb-true, false≢true, lt-ltb, ltb-true, ne_eqb, nat_tests, get_or_default, take_all, count_by_more_no, count_by_more_yes, sum_by-take-le, ChannelId, Row, is_there, Ordered, Pair, is_above, JoinsTwo, count_at, is_end, is_link_of, joins_two}
 use Rattle.mum_kept.proofs.Goodness.{is_true, sorted_pairs, true_is}
 
 -- ---- each link joins two channels

@@ -1,29 +1,6 @@
 -- What tests find of rows, and what makes them good.
-use Rattle.std.proofs.Common.{◌≡◌, ◌≢◌, ℕ, zero, suc, ◌+◌, ◌-◌, ◌<◌, ◌≤◌, ◌==◌, ◌||◌, Bool, true, false, ltb, List, [], ◌∷◌, codes, length, take, get_or, Option, Some, None, is_some, refl, sym, ap, subst, ◌∙◌, arith}
-use Rattle.std.specs.Prelude.{IsTrue, ◌↔◌}
-use Rattle.std.specs.List.{AllAdjacentBelow, AllPairs, Contains, IsAllAdjacentAnswer, list_all}
-use Rattle.std.specs.Str.{bytes_eq}
-use Rattle.std.proofs.lemmas.Bool.{and_from, and_parts, eq-eqb, eqb-true, false≢true, lt-ltb, ltb-true, ne_eqb}
-use Rattle.std.proofs.lemmas.Option.{none-some, same_Some}
-use Rattle.std.proofs.lemmas.Slice.Eq.{bytes_eq-Decides}
-use Rattle.std.proofs.lemmas.List.{take_all}
-use Rattle.std.proofs.lemmas.List.Folds.{list_all_at, list_all_more, list_any_at}
-use Rattle.mum_base.specs.Channels.{is_among}
-use Rattle.mum_base.specs.declared.number.ChannelId.{ChannelId}
-use Rattle.mum_base.specs.declared.number.TheConstants.ChannelId.{ROOT}
-use Rattle.mum_tree.specs.declared.channel.Row.{Row}
-use Rattle.mum_tree.specs.declared.channel.TheConstants.{PATH_LIMIT}
-use Rattle.mum_tree.specs.Proper.{HasRoot, LeadUp}
-use Rattle.mum_tree.specs.Rows.{is_root, is_there, number, row_of, upward, Rise}
-use Rattle.mum_tree.proofs.Find.{contains_later}
-use Rattle.mum_tree.proofs.Upward.{upward_at, upward_missing, upward_zero}
-use Rattle.mum_state.proofs.Each.{Each, each_any, each_passes, each_so, some_found, any_map}
-use Rattle.mum_notify.proofs.Families.{same_channel}
-use Rattle.mum_kept.specs.declared.rows.KeptChannel.{KeptChannel}
-use Rattle.mum_kept.specs.Good.{is_named_root, leads_up}
-use Rattle.mum_kept.specs.Rows.{tree_row, tree_rows}
-use Rattle.mum_kept.proofs.Lasting.{found_each}
-use Rattle.mum_kept.proofs.Numbered.{channels_rise, each_unmapped, rows_rise}
+use Rattle.mum_kept.proofs.Common.{◌≡◌, ◌≢◌, ℕ, zero, suc, ◌+◌, ◌-◌, ◌<◌, ◌≤◌, ◌==◌, ◌||◌, Bool, true, false, ltb, List, [], ◌∷◌, codes, length, take, get_or, Option, Some, None, is_some, refl, sym, ap, subst, ◌∙◌, arith, IsTrue, ◌↔◌, AllAdjacentBelow, AllPairs, Contains, IsAllAdjacentAnswer, list_all, bytes_eq, and_from, and_parts, eq-eqb, eqb-true, false≢true, lt-ltb, ltb-true, ne_eqb, none-some, same_Some, bytes_eq-Decides, take_all, list_all_at, list_all_more, list_any_at, is_among, ChannelId, ROOT, Row, PATH_LIMIT, HasRoot, LeadUp, is_root, is_there, number, row_of, upward, Rise, contains_later, upward_at, upward_missing, upward_zero, Each, each_any, each_passes, each_so, some_found, any_map, same_channel, KeptChannel, is_named_root, leads_up, tree_row, tree_rows}
+use Rattle.mum_kept.proofs.{Lasting.found_each, Numbered.channels_rise, Numbered.each_unmapped, Numbered.rows_rise}
 
 -- ---- tests and facts
 
@@ -35,7 +12,7 @@ is_true b on = on
 
 -- ---- neighbours in order
 
--- where each is related to the next, and the relation is transitive, each is related to all behind it
+-- where each is related to the next, and the relation is transitive, each is related to all after it
 adjacent_pairs : {X : Type 0} (R : X → X → Type 0) → ((x y z : X) → R x y → R y z → R x z) → (xs : List X) → AllAdjacentBelow R xs (length xs) → AllPairs R xs
 adjacent_pairs {X} R through xs adjacent i j d less within = far (j - i - 1) i j (omega arith) within
   where

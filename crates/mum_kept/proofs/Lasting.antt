@@ -1,26 +1,6 @@
 -- Rows and links taken channel by channel are those of the whole tree.
-use Rattle.std.proofs.Common.{◌≡◌, ℕ, zero, suc, ◌+◌, ◌<◌, ◌≤◌, ◌==◌, Bool, true, false, not, cond, List, [], ◌∷◌, ◌++◌, length, map, get_or, Option, Some, is_some, refl, sym, ap, ◌∙◌, append_assoc, arith, take}
-use Rattle.std.specs.Prelude.{IsTrue}
-use Rattle.std.specs.List.{AllPairs, filter, flat_map}
-use Rattle.std.specs.Option.{option_map, option_map_or}
-use Rattle.std.proofs.lemmas.Bool.{eq-eqb, eqb-true, ne_eqb}
-use Rattle.std.proofs.lemmas.List.{append-nil, get_or_default, map-append, take_more}
-use Rattle.std.proofs.lemmas.List.Elements.{filter-append}
-use Rattle.std.proofs.lemmas.List.Folds.{flat_map-map}
-use Rattle.std.proofs.lemmas.List.Kept.{AllPairs-filter}
-use Rattle.mum_base.specs.declared.number.ChannelId.{ChannelId}
-use Rattle.mum_tree.specs.declared.channel.Row.{Row}
+use Rattle.mum_kept.proofs.Common.{◌≡◌, ℕ, zero, suc, ◌+◌, ◌<◌, ◌≤◌, ◌==◌, Bool, true, false, not, cond, List, [], ◌∷◌, ◌++◌, length, map, get_or, Option, Some, is_some, refl, sym, ap, ◌∙◌, append_assoc, arith, take, IsTrue, AllPairs, filter, flat_map, option_map, option_map_or, eq-eqb, eqb-true, ne_eqb, append-nil, get_or_default, map-append, take_more, filter-append, flat_map-map, AllPairs-filter, ChannelId, Row, is_there, number, row_of, Rise, Ordered, Pair, TreeState, is_above, starts_at, AllPairs-tail, row_of_at, starts_rise, Each, each_any, each_from_all, each_so, some_found, StateValue, same_channel, pieces_more, channel_ids, is_lasting, kept_channel, kept_channels, kept_if_lasting, kept_of, links_from}
 use Rattle.mum_tree.specs.Proper.{IsProper}
-use Rattle.mum_tree.specs.Rows.{is_there, number, row_of, Rise}
-use Rattle.mum_tree.specs.State.{Ordered, Pair, TreeState, is_above, starts_at}
-use Rattle.mum_tree.proofs.Find.{AllPairs-tail, row_of_at}
-use Rattle.mum_tree.proofs.LinkSearch.{starts_rise}
-use Rattle.mum_state.proofs.Each.{Each, each_any, each_from_all, each_so, some_found}
-use Rattle.mum_state.specs.State.{StateValue}
-use Rattle.mum_notify.proofs.Families.{same_channel}
-use Rattle.mum_notify.proofs.Pieces.{pieces_more}
-use Rattle.mum_notify.specs.Channels.{channel_ids}
-use Rattle.mum_kept.specs.Kept.{is_lasting, kept_channel, kept_channels, kept_if_lasting, kept_of, links_from}
 
 -- ---- lists
 
@@ -61,7 +41,7 @@ all_left : {X : Type 0} (p : X → Bool) (xs : List X) → Each (λ x. p x ≡ f
 all_left p [] off = refl
 all_left p (x ∷ xs) off = rw off.0 (ap (λ ys. x ∷ ys) (all_left p xs off.1))
 
--- those that pass stand before the others
+-- those that pass come before the others
 separated : {X : Type 0} (p : X → Bool) (xs : List X) → AllPairs (λ x y. p y ≡ true → p x ≡ true) xs → filter p xs ++ filter (λ x. not (p x)) xs ≡ xs
 separated p [] falls = refl
 separated {X} p (x ∷ xs) falls = step (p x) refl (separated p xs (AllPairs-tail (λ x y. p y ≡ true → p x ≡ true) x xs falls))

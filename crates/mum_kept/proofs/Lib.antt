@@ -1,3 +1,5 @@
+mod Common
+pub mod Public
 pub mod ByParents
 pub mod Degrees
 pub mod Goodness

@@ -1,18 +1,5 @@
 -- Kept channels as rows of a tree, by their numbers.
-use Rattle.std.proofs.Common.{◌≡◌, ℕ, ◌<◌, List, [], ◌∷◌, length, map, get_or, Option, Some, None, Result, Ok, Err, MatchOption, MatchResult, sym, ap, subst, ◌∙◌, arith}
-use Rattle.std.specs.List.{AllPairs}
-use Rattle.std.specs.List.Sorted.{IsSearchInRange, IsBinarySearchResult}
-use Rattle.std.specs.Ordering.{nat_cmp}
-use Rattle.std.specs.Result.{result_ok}
-use Rattle.std.proofs.lemmas.List.{get_or-map, length-map}
-use Rattle.mum_base.specs.declared.number.ChannelId.{ChannelId}
-use Rattle.mum_tree.specs.declared.channel.Row.{Row}
-use Rattle.mum_tree.specs.Rows.{number, row_of, Rise}
-use Rattle.mum_tree.proofs.Find.{row_of_at, row_of_none}
-use Rattle.mum_tree.proofs.Search.{found_by_binary_search}
-use Rattle.mum_state.proofs.Each.{Each}
-use Rattle.mum_kept.specs.declared.rows.KeptChannel.{KeptChannel}
-use Rattle.mum_kept.specs.Rows.{tree_row, tree_rows}
+use Rattle.mum_kept.proofs.Common.{◌≡◌, ℕ, ◌<◌, List, [], ◌∷◌, length, map, get_or, Option, Some, None, Result, Ok, Err, MatchOption, MatchResult, sym, ap, subst, ◌∙◌, arith, AllPairs, IsSearchInRange, IsBinarySearchResult, nat_cmp, result_ok, get_or-map, length-map, ChannelId, Row, number, row_of, Rise, row_of_at, row_of_none, found_by_binary_search, Each, KeptChannel, tree_row, tree_rows}
 
 pub each_unmapped : {X Y : Type 0} (P : Y → Type 0) (f : X → Y) (xs : List X) → Each P (map f xs) → Each (λ x. P (f x)) xs
 each_unmapped P f [] all = tt
@@ -47,7 +34,7 @@ rows_rise channels rise i j d less within =
     let risen : (get_or channels i other).id.0 < (get_or channels j other).id.0 = rise i j other less inside in
     omega arith
 
--- what a search tells of a channel
+-- what a search reports of a channel
 abbrev pub Located : List KeptChannel → ChannelId → Option ℕ → Type 0
 Located channels id found =
     MatchOption found (row_of (tree_rows channels) id ≡ None)

@@ -1,15 +1,5 @@
 -- What is read of a payload is its message, or it is none.
-use Rattle.std.proofs.Common.{◌≡◌, ℕ, false, List, Option, Some, None, Result, Ok, Err, ap, ◌∙◌}
-use Rattle.std.specs.Option.{option_map_or}
-use Rattle.mum_base.specs.declared.number.ChannelId.{ChannelId}
-use Rattle.mum_fields.specs.Table.{Values, decoded, layout, parts}
-use Rattle.mum_fields.specs.declared.message.MessageFault.{MessageFault}
-use Rattle.mum_msg_rule.specs.declared.acl.Acl.{Acl}
-use Rattle.mum_msg_rule.specs.Messages.{acl}
-use Rattle.mum_msg_rule.specs.Parts.{acl_back}
-use Rattle.mum_state.specs.State.{open_policy}
-use Rattle.mum_rules_tree.specs.Policy.{policy_asked}
-use Rattle.mum_kept.specs.Policy.{holds_policy, is_answer_of, message_if_decoded, message_in, policy_in}
+use Rattle.mum_kept.proofs.Common.{◌≡◌, ℕ, false, List, Option, Some, None, Result, Ok, Err, ap, ◌∙◌, option_map_or, ChannelId, Values, decoded, layout, parts, MessageFault, Acl, acl, acl_back, open_policy, policy_asked, holds_policy, is_answer_of, message_if_decoded, message_in, policy_in}
 
 pub read : (payload : List ℕ) (message : Acl) → decoded acl payload ≡ Ok (parts acl message) → message_in payload ≡ Some message
 read payload message is =

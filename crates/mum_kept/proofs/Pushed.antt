@@ -1,13 +1,5 @@
 -- Edits at the end of others: one more, where a channel passes a test, and all pieces.
-use Rattle.std.proofs.Common.{◌≡◌, ℕ, ◌+◌, ◌<◌, Bool, true, false, List, [], ◌∷◌, ◌++◌, length, map, take, get_or, ap, ◌∙◌, append_assoc}
-use Rattle.std.specs.List.{filter}
-use Rattle.std.proofs.lemmas.List.{get_or_default}
-use Rattle.mum_tree.specs.State.{Pair}
-use Rattle.mum_state.specs.declared.edit.Edit.{Edit}
-use Rattle.mum_notify.proofs.Pieces.{dropped_more, kept_more}
-use Rattle.mum_kept.specs.declared.rows.KeptChannel.{KeptChannel}
-use Rattle.mum_kept.specs.declared.rows.KeptRows.{KeptRows}
-use Rattle.mum_kept.specs.Rebuild.{info_edits, link_edit, make_edits, place_edits, policy_edit, rebuild}
+use Rattle.mum_kept.proofs.Common.{◌≡◌, ℕ, ◌+◌, ◌<◌, Bool, true, false, List, [], ◌∷◌, ◌++◌, length, map, take, get_or, ap, ◌∙◌, append_assoc, filter, get_or_default, Pair, Edit, dropped_more, kept_more, KeptChannel, KeptRows, info_edits, link_edit, make_edits, place_edits, policy_edit, rebuild}
 
 pub kept_at : {X Y : Type 0} (p : X → Bool) (f : X → Y) (old : List Y) (xs : List X) (i : ℕ) (d : X) (before now : List Y) → i < length xs → p (get_or xs i d) ≡ true
     → before ≡ old ++ map f (filter p (take i xs)) → now ≡ before ++ f (get_or xs i d) ∷ [] → now ≡ old ++ map f (filter p (take (i + 1) xs))

@@ -1,20 +1,5 @@
 -- Siblings have different names where each channel has a seat of its own.
-use Rattle.std.proofs.Common.{◌≡◌, ◌≢◌, ℕ, ◌+◌, ◌<◌, ◌≤◌, ◌==◌, ◌&&◌, ◌||◌, zero, suc, Bool, true, false, not, cond, List, [], ◌∷◌, ◌++◌, length, map, take, filter, get_or, refl, sym, ap, subst, ◌∙◌, arith}
-use Rattle.std.specs.Prelude.{IsTrue, ◌↔◌}
-use Rattle.std.specs.Borrow.{Bor}
-use Rattle.std.specs.List.{AllPairs, list_any}
-use Rattle.std.specs.Str.{bytes_eq}
-use Rattle.std.proofs.lemmas.Bool.{and_from, and_parts, eq-eqb, eqb-true, false≢true, ne_eqb}
-use Rattle.std.proofs.lemmas.List.{append-nil, get_or-take, get_or_default, length-take, map-append, take_more}
-use Rattle.std.proofs.lemmas.List.Elements.{filter-append}
-use Rattle.std.proofs.lemmas.Slice.Eq.{bytes_eq-Decides}
-use Rattle.indexmap.specs.IndexSet.{insert_key}
-use Rattle.mum_tree.specs.declared.channel.Row.{Row}
-use Rattle.mum_tree.specs.Proper.{AreApart}
-use Rattle.mum_state.proofs.Each.{Each, each_any, each_from_all, any_map}
-use Rattle.mum_kept.specs.declared.rows.KeptChannel.{KeptChannel}
-use Rattle.mum_kept.specs.Good.{Seat, is_seat, seat_of, seats_of, seats_taken}
-use Rattle.mum_kept.specs.Rows.{below_root, is_top, tree_row, tree_rows}
+use Rattle.mum_kept.proofs.Common.{◌≡◌, ◌≢◌, ℕ, ◌+◌, ◌<◌, ◌≤◌, ◌==◌, ◌&&◌, ◌||◌, zero, suc, Bool, true, false, not, cond, List, [], ◌∷◌, ◌++◌, length, map, take, filter, get_or, refl, sym, ap, subst, ◌∙◌, arith, IsTrue, ◌↔◌, Bor, AllPairs, list_any, bytes_eq, and_from, and_parts, eq-eqb, eqb-true, false≢true, ne_eqb, append-nil, get_or-take, get_or_default, length-take, map-append, take_more, filter-append, bytes_eq-Decides, insert_key, Row, AreApart, Each, each_any, each_from_all, any_map, KeptChannel, Seat, is_seat, seat_of, seats_of, seats_taken, below_root, is_top, tree_row, tree_rows}
 use Rattle.mum_kept.proofs.Numbered.{row_at, rows_many}
 
 -- what two channels may not be

@@ -1,21 +1,5 @@
 -- Worked facts of kept rows, worked out by hand.
-use Rattle.std.proofs.Common.{◌≡◌, ℕ, false, List, [], ◌∷◌, codes, Some, None, refl, arith}
-use Rattle.std.proofs.lemmas.Fmt.{decimal_digit}
-use Rattle.mum_base.specs.declared.number.ChannelId.{ChannelId}
-use Rattle.mum_fields.proofs.Worked.{messages}
-use Rattle.mum_msg_rule.specs.Parts.{acl_group_of, acl_line_of, acl_of, acl_with}
-use Rattle.mum_tree.specs.Rows.{upward}
-use Rattle.mum_tree.specs.State.{plain_info}
-use Rattle.mum_state.specs.declared.edit.Edit.{Edit}
-use Rattle.mum_state.specs.declared.edit.Edit.TheVariants.{EditChannel, MakeChannel, SetAcl}
-use Rattle.mum_state.specs.State.{empty_state, open_policy}
-use Rattle.mum_state.proofs.Scenes.{link, make, make_temporary, state}
-use Rattle.mum_notify.specs.Channels.{family}
-use Rattle.mum_kept.specs.declared.rows.KeptChannel.{KeptChannel}
-use Rattle.mum_kept.specs.declared.rows.KeptRows.{KeptRows}
-use Rattle.mum_kept.specs.Kept.{kept}
-use Rattle.mum_kept.specs.Prefix.{first_unused, prefix}
-use Rattle.mum_kept.specs.Rebuild.{rebuild}
+use Rattle.mum_kept.proofs.Common.{◌≡◌, ℕ, false, List, [], ◌∷◌, codes, Some, None, refl, arith, decimal_digit, ChannelId, messages, acl_group_of, acl_line_of, acl_of, acl_with, upward, plain_info, Edit, EditChannel, MakeChannel, SetAcl, empty_state, open_policy, link, make, make_temporary, state, family, KeptChannel, KeptRows, kept, first_unused, prefix, rebuild}
 
 abbrev channel : ℕ → ChannelId
 channel number = record { 0 = number }

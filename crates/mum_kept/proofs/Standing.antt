@@ -1,29 +1,5 @@
 -- Policies that are those of an earlier state.
-use Rattle.std.proofs.Common.{◌≡◌, ℕ, ◌≤◌, ◌||◌, zero, suc, Bool, true, false, cond, List, [], ◌∷◌, filter, length, map, refl, sym, ap, subst, ◌∙◌, arith, Option, Some, None, IfSome}
-use Rattle.std.specs.Borrow.{Bor}
-use Rattle.std.specs.List.{AllByRecursion}
-use Rattle.std.specs.Option.{option_copied}
-use Rattle.std.specs.Prelude.{slice_get}
-use Rattle.std.specs.Slice.{IsItemAt}
-use Rattle.std.proofs.lemmas.Bool.{or_parts}
-use Rattle.std.proofs.lemmas.Option.{none-some, same_Some, slice_get_past, slice_get_read}
-use Rattle.mum_tree.specs.declared.channel.Row.{Row}
-use Rattle.mum_state.specs.declared.edit.Edit.{Edit}
-use Rattle.mum_state.specs.After.{led_to}
-use Rattle.mum_state.specs.Applied.{applied}
-use Rattle.mum_state.specs.Counts.{raised_where}
-use Rattle.mum_state.specs.Emptied.{empties}
-use Rattle.mum_state.specs.Kinds.{changes_paths}
-use Rattle.mum_state.specs.Proper.{IsProper}
-use Rattle.mum_state.specs.Set.{set_by}
-use Rattle.mum_state.specs.State.{PolicyRow, StateValue}
-use Rattle.mum_state.proofs.Counting.{counts_never_fall_lem}
-use Rattle.mum_state.proofs.Raised.{not_raised}
-use Rattle.mum_state.proofs.Ways.{AreGoverned, HasWays, edge, governed_where_proper, ways_stay}
-use Rattle.mum_tree.specs.State.{Pair}
-use Rattle.mum_kept.specs.Kept.{is_lasting, kept, kept_channel, kept_policy}
-use Rattle.mum_kept.specs.declared.rows.KeptChannel.{KeptChannel}
-use Rattle.mum_kept.specs.Standing.{HasPolicyOf, HavePoliciesOf, PoliciesStand}
+use Rattle.mum_kept.proofs.Common.{◌≡◌, ℕ, ◌≤◌, ◌||◌, zero, suc, Bool, true, false, cond, List, [], ◌∷◌, filter, length, map, refl, sym, ap, subst, ◌∙◌, arith, Option, Some, None, IfSome, Bor, AllByRecursion, option_copied, slice_get, IsItemAt, or_parts, none-some, same_Some, slice_get_past, slice_get_read, Row, Edit, led_to, applied, raised_where, empties, changes_paths, IsProper, set_by, PolicyRow, StateValue, counts_never_fall_lem, not_raised, AreGoverned, HasWays, edge, governed_where_proper, ways_stay, Pair, is_lasting, kept, kept_channel, kept_policy, KeptChannel, HasPolicyOf, HavePoliciesOf, PoliciesStand}
 
 module _ (edges : List Pair) (policies : List PolicyRow) (governed : AreGoverned edges policies) where
   ways_stand : (state : StateValue) (edits : List Edit) → HasWays edges policies state.tree.channels state.policies

@@ -1,20 +1,5 @@
 -- The prefix that is free is the first with which no name begins.
-use Rattle.std.proofs.Common.{◌≡◌, ◌≢◌, ℕ, zero, suc, ◌+◌, ◌-◌, ◌*◌, ◌/◌, ◌%◌, ◌<◌, ◌≤◌, ◌==◌, ◌&&◌, ◌||◌, Bool, true, false, cond, List, [], ◌∷◌, length, map, take, set, get_or, refl, sym, ap, ◌∙◌, arith}
-use Rattle.std.specs.Bool.{Decides}
-use Rattle.std.specs.List.{list_any}
-use Rattle.std.specs.Str.{bytes_eq}
-use Rattle.std.proofs.lemmas.Bool.{and_parts, eq-eqb, eqb-true, false≢true, ne_eqb}
-use Rattle.std.proofs.lemmas.Bool.Decides.{nat_tests, same_from_decides}
-use Rattle.std.proofs.lemmas.List.{get_or-set_other, get_or-set_same, length-map}
-use Rattle.std.proofs.lemmas.List.Folds.{list_any_more}
-use Rattle.std.proofs.lemmas.Slice.Eq.{bytes_eq-Decides}
-use Rattle.mum_tree.specs.declared.channel.Row.{Row}
-use Rattle.mum_tree.specs.Places.{first_place, has_place, least_place}
-use Rattle.mum_tree.proofs.Places.{free_unhad, least_is, least_within, unhad}
-use Rattle.mum_state.proofs.Each.{any_alike, any_map}
-use Rattle.mum_kept.specs.declared.rows.KeptChannel.{KeptChannel}
-use Rattle.mum_kept.specs.Prefix.{begins_with, begins_with_letters, first_unused, is_letter, is_used, prefix, prefix_number}
-use Rattle.mum_kept.specs.Rows.{tree_row}
+use Rattle.mum_kept.proofs.Common.{◌≡◌, ◌≢◌, ℕ, zero, suc, ◌+◌, ◌-◌, ◌*◌, ◌/◌, ◌%◌, ◌<◌, ◌≤◌, ◌==◌, ◌&&◌, ◌||◌, Bool, true, false, cond, List, [], ◌∷◌, length, map, take, set, get_or, refl, sym, ap, ◌∙◌, arith, Decides, list_any, bytes_eq, and_parts, eq-eqb, eqb-true, false≢true, ne_eqb, nat_tests, same_from_decides, get_or-set_other, get_or-set_same, length-map, list_any_more, bytes_eq-Decides, Row, first_place, has_place, least_place, free_unhad, least_is, least_within, unhad, any_alike, any_map, KeptChannel, begins_with, begins_with_letters, first_unused, is_letter, is_used, prefix, prefix_number, tree_row}
 
 -- ---- the number of a prefix says with which one a name begins
 

@@ -1,20 +1,6 @@
 -- What makes rows good as a whole.
-use Rattle.std.proofs.Common.{◌≡◌, ◌≢◌, ◌<◌, ◌≤◌, ◌==◌, ◌&&◌, Bool, true, false, List, [], ◌∷◌, length, refl, sym, ap, subst, ◌∙◌, arith, inl, inr, ⊎_elim}
-use Rattle.std.specs.Prelude.{IsTrue, ◌↔◌}
-use Rattle.std.specs.List.{AllPairs, count_by, list_all}
-use Rattle.std.proofs.lemmas.Bool.{and_from, and_parts, eq-eqb, eqb-true, false≢true}
-use Rattle.std.proofs.lemmas.Option.{none-some}
-use Rattle.mum_base.specs.declared.number.ChannelId.{ChannelId}
-use Rattle.mum_tree.specs.declared.channel.Row.{Row}
-use Rattle.mum_tree.specs.Proper.{AreApart, HasRoot}
-use Rattle.mum_tree.specs.Rows.{Rise}
-use Rattle.mum_tree.specs.State.{Ordered, Pair}
-use Rattle.mum_kept.specs.declared.rows.KeptChannel.{KeptChannel}
-use Rattle.mum_kept.specs.declared.rows.KeptRows.{KeptRows}
-use Rattle.mum_kept.specs.Good.{AreGoodChannels, AreGoodLinks, AreNone, AreShaped, IsGood, IsTree, are_sound, has_name, has_policy, has_text, is_link_of, joins_two, leads_up}
-use Rattle.mum_kept.specs.Rows.{tree_rows}
-use Rattle.mum_kept.proofs.Degrees.{all_join}
-use Rattle.mum_kept.proofs.Goodness.{all_lead}
+use Rattle.mum_kept.proofs.Common.{◌≡◌, ◌≢◌, ◌<◌, ◌≤◌, ◌==◌, ◌&&◌, Bool, true, false, List, [], ◌∷◌, length, refl, sym, ap, subst, ◌∙◌, arith, inl, inr, ⊎_elim, IsTrue, ◌↔◌, AllPairs, count_by, list_all, and_from, and_parts, eq-eqb, eqb-true, false≢true, none-some, ChannelId, Row, AreApart, HasRoot, Rise, Ordered, Pair, KeptChannel, KeptRows, AreGoodChannels, AreGoodLinks, AreNone, AreShaped, IsGood, IsTree, are_sound, has_name, has_policy, has_text, is_link_of, joins_two, leads_up, tree_rows}
+use Rattle.mum_kept.proofs.{Degrees.all_join, Goodness.all_lead}
 
 empty_is : {X : Type 0} (xs : List X) → length xs ≡ 0 → xs ≡ []
 empty_is [] none = refl

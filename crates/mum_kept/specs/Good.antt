@@ -1,24 +1,15 @@
 -- Which rows describe the channels of a server.
 use Rattle.std.specs.Prelude.{◌≡◌, ℕ, ◌<◌, ◌≤◌, ◌==◌, ◌&&◌, ◌||◌, ◌⊎◌, nat_lt, Bool, List, [], ◌∷◌, codes, length, map, unwrap_or, if◌then◌else◌, IsTrue}
-use Rattle.std.specs.Borrow.{Bor}
+use Rattle.std.specs.{Borrow.Bor, Map.lookup, Str.bytes_eq}
 use Rattle.std.specs.List.{count_by, list_all, All, AllPairs}
-use Rattle.std.specs.Map.{lookup}
-use Rattle.std.specs.Str.{bytes_eq}
 use Rattle.mum_base.specs.Channels.{is_among}
-use Rattle.mum_base.specs.declared.number.ChannelId.{ChannelId}
-use Rattle.mum_base.specs.declared.number.TheConstants.{PLACES}
-use Rattle.mum_base.specs.declared.number.TheConstants.ChannelId.{ROOT}
-use Rattle.mum_tree.specs.declared.channel.Row.{Row}
-use Rattle.mum_tree.specs.declared.channel.TheConstants.{PATH_LIMIT}
-use Rattle.mum_tree.specs.declared.links.TheConstants.{LINK_LIMIT}
-use Rattle.mum_tree.specs.Proper.{AreApart, HasRoot, LeadUp}
+use Rattle.mum_base.specs.declared.number.{ChannelId.ChannelId, TheConstants.PLACES, TheConstants.ChannelId.ROOT}
+use Rattle.mum_tree.specs.declared.{channel.Row.Row, channel.TheConstants.PATH_LIMIT, links.TheConstants.CHANNEL_LINK_LIMIT}
+use Rattle.mum_tree.specs.{Proper.AreApart, Proper.HasRoot, Proper.LeadUp, State.Ordered, State.Pair}
 use Rattle.mum_tree.specs.Rows.{is_root, is_there, upward, Rise}
-use Rattle.mum_tree.specs.State.{Ordered, Pair}
 use Rattle.mum_state.specs.Proper.{is_name, is_text}
-use Rattle.mum_kept.specs.declared.rows.KeptChannel.{KeptChannel}
-use Rattle.mum_kept.specs.declared.rows.KeptRows.{KeptRows}
-use Rattle.mum_kept.specs.Policy.{holds_policy}
-use Rattle.mum_kept.specs.Rows.{is_top, tree_rows}
+use Rattle.mum_kept.specs.declared.rows.{KeptChannel.KeptChannel, KeptRows.KeptRows}
+use Rattle.mum_kept.specs.{Policy.holds_policy, Rows.is_top, Rows.tree_rows}
 
 -- its name is one by the rules for names
 abbrev pub has_name : KeptChannel → Bool
@@ -61,7 +52,7 @@ pub record AreGoodLinks (rows : List Row) (links : List Pair) : Type 0 where
   pub between : All (JoinsTwo rows) links
   -- each once
   pub rising : Ordered links
-  pub few_each : (id : ChannelId) → count_by (is_link_of id) links ≤ LINK_LIMIT
+  pub few_each : (id : ChannelId) → count_by (is_link_of id) links ≤ CHANNEL_LINK_LIMIT
 
 -- the rows of channels that a server may have
 abbrev pub IsTree : KeptRows → Type 0
@@ -88,7 +79,8 @@ leads_up rows id = is_among (upward rows PATH_LIMIT id) ROOT
 -- parents lead from each to the root, and their names and descriptions are as they may be
 abbrev pub are_sound : List KeptChannel → Bool
 are_sound channels =
-    list_all (λ channel. leads_up (tree_rows channels) channel.id) channels && list_all has_name channels && list_all has_text channels
+    list_all (λ channel. leads_up (tree_rows channels) channel.id) channels && list_all has_name channels
+    && list_all has_text channels
 
 -- the conditions on channels that no memory is needed for
 pub record AreShaped (channels : List KeptChannel) : Type 0 where

@@ -7,8 +7,7 @@ use Rattle.mum_tree.specs.declared.channel.Channel.{Channel}
 use Rattle.mum_tree.specs.State.{Pair, TreeState, partners}
 use Rattle.mum_state.specs.State.{StateValue, policy_of}
 use Rattle.mum_notify.specs.Channels.{channel_of}
-use Rattle.mum_kept.specs.declared.rows.KeptChannel.{KeptChannel}
-use Rattle.mum_kept.specs.declared.rows.KeptRows.{KeptRows}
+use Rattle.mum_kept.specs.declared.rows.{KeptChannel.KeptChannel, KeptRows.KeptRows}
 use Rattle.mum_kept.specs.Policy.{policy_payload}
 
 -- it is not temporary
@@ -39,7 +38,8 @@ is_kept_link tree pair = nat_lt pair.0.0 pair.1.0 && lasts tree pair.0 && lasts 
 
 -- the rows of all channels but temporary ones, in the state's order
 abbrev pub kept_channels : StateValue → List KeptChannel
-kept_channels state = map (λ row. kept_channel state row.channel) (filter (λ row. is_lasting row.channel) state.tree.channels)
+kept_channels state =
+    map (λ row. kept_channel state row.channel) (filter (λ row. is_lasting row.channel) state.tree.channels)
 
 -- the links between these, each once
 abbrev pub kept_links : TreeState → List Pair

@@ -1,19 +1,14 @@
 -- The policy of a channel as bytes: the payload of the ACL message that answers a query for it.
 use Rattle.std.specs.Prelude.{ℕ, ◌==◌, ◌&&◌, not, Bool, false, List, Option, Some, None, Result, Ok, Err, unwrap_or}
-use Rattle.std.specs.List.{list_all}
-use Rattle.std.specs.Option.{option_map_or}
-use Rattle.mum_base.specs.declared.number.ChannelId.{ChannelId}
-use Rattle.mum_base.specs.declared.perm.TheConstants.Perm.{ALL}
+use Rattle.std.specs.{List.list_all, Option.option_map_or}
+use Rattle.mum_base.specs.declared.{number.ChannelId.ChannelId, perm.TheConstants.Perm.ALL}
 use Rattle.mum_fields.specs.Table.{Values, decoded, layout, spelled}
 use Rattle.mum_fields.specs.declared.message.MessageFault.{MessageFault}
-use Rattle.mum_msg_rule.specs.declared.acl.Acl.{Acl}
-use Rattle.mum_msg_rule.specs.declared.acl_line.AclLine.{AclLine}
-use Rattle.mum_msg_rule.specs.Messages.{acl}
-use Rattle.mum_msg_rule.specs.Parts.{acl_of}
 use Rattle.mum_policy.specs.declared.policy.ChannelPolicy.{ChannelPolicy}
 use Rattle.mum_policy.specs.Walk.{holds}
-use Rattle.mum_state.specs.Proper.{is_sound_policy}
-use Rattle.mum_state.specs.State.{open_policy}
+use Rattle.mum_msg_rule.specs.declared.{acl.Acl.Acl, acl_line.AclLine.AclLine}
+use Rattle.mum_msg_rule.specs.{Messages.acl, Parts.acl_of}
+use Rattle.mum_state.specs.{Proper.is_sound_policy, State.open_policy}
 use Rattle.mum_rules_tree.specs.Policy.{acl_told, policy_asked}
 
 -- what answers a query for the policy of the channel

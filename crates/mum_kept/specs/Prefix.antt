@@ -1,7 +1,6 @@
 -- Names for the time until each channel has its own: three lowercase letters with which no name begins, and a number.
 use Rattle.std.specs.Prelude.{ℕ, zero, suc, ◌+◌, ◌-◌, ◌*◌, ◌/◌, ◌%◌, ◌&&◌, nat_le, Bool, List, [], ◌∷◌, length, map, slice_index, take, if◌then◌else◌}
-use Rattle.std.specs.List.{list_any}
-use Rattle.std.specs.Str.{bytes_eq}
+use Rattle.std.specs.{List.list_any, Str.bytes_eq}
 use Rattle.mum_kept.specs.declared.rows.KeptChannel.{KeptChannel}
 
 -- three lowercase letters: aaa, aab and so on
@@ -32,7 +31,8 @@ abbrev pub is_letter : ℕ → Bool
 is_letter byte = nat_le 97 byte && nat_le byte 122
 
 abbrev pub begins_with_letters : List ℕ → Bool
-begins_with_letters name = is_letter (slice_index name 0) && is_letter (slice_index name 1) && is_letter (slice_index name 2)
+begins_with_letters name =
+    is_letter (slice_index name 0) && is_letter (slice_index name 1) && is_letter (slice_index name 2)
 
 -- the number of the prefix with which the name begins; 17,576 where it begins with none
 abbrev pub prefix_number : List ℕ → ℕ

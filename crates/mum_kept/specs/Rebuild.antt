@@ -1,22 +1,15 @@
 -- The edits that make the channels of kept rows again.
 use Rattle.std.specs.Prelude.{ℕ, ◌==◌, ◌&&◌, not, pos, Bool, false, List, [], ◌∷◌, ◌++◌, filter, map, Option, Some, None, if◌then◌else◌}
-use Rattle.std.specs.Fmt.{decimal}
-use Rattle.std.specs.Ordering.{int_eq}
-use Rattle.mum_base.specs.declared.number.ChannelId.{ChannelId}
-use Rattle.mum_base.specs.declared.number.TheConstants.ChannelId.{ROOT}
+use Rattle.std.specs.{Fmt.decimal, Ordering.int_eq}
+use Rattle.mum_base.specs.declared.number.{ChannelId.ChannelId, TheConstants.ChannelId.ROOT}
 use Rattle.mum_tree.specs.declared.channel.ChannelInfo.{ChannelInfo}
-use Rattle.mum_tree.specs.Refusals.{name_of, parent_of}
-use Rattle.mum_tree.specs.Rows.{is_root}
-use Rattle.mum_tree.specs.State.{Pair, TreeState}
+use Rattle.mum_tree.specs.{Refusals.name_of, Refusals.parent_of, Rows.is_root, State.Pair, State.TreeState}
 use Rattle.mum_state.specs.declared.edit.Edit.{Edit}
 use Rattle.mum_state.specs.declared.edit.Edit.TheVariants.{EditChannel, MakeChannel, SetAcl}
 use Rattle.mum_state.specs.Kinds.{is_empty}
 use Rattle.mum_notify.specs.Sync.{tree_order}
-use Rattle.mum_kept.specs.declared.rows.KeptChannel.{KeptChannel}
-use Rattle.mum_kept.specs.declared.rows.KeptRows.{KeptRows}
-use Rattle.mum_kept.specs.Policy.{policy_in}
-use Rattle.mum_kept.specs.Prefix.{free_prefix}
-use Rattle.mum_kept.specs.Rows.{below_root, is_top, tree_of}
+use Rattle.mum_kept.specs.declared.rows.{KeptChannel.KeptChannel, KeptRows.KeptRows}
+use Rattle.mum_kept.specs.{Policy.policy_in, Prefix.free_prefix, Rows.below_root, Rows.is_top, Rows.tree_of}
 
 -- makes the channel under the root, under a name that none of the kept channels has
 abbrev pub make_edit : List ℕ → KeptChannel → Edit
@@ -45,7 +38,8 @@ is_plain info = is_empty info.description && int_eq info.position (pos 0) && (in
 
 -- describes the root
 abbrev pub info_edit : ChannelInfo → Edit
-info_edit info = EditChannel ROOT None None None (Some info.description) (Some info.position) (Some info.max_users) [] []
+info_edit info =
+    EditChannel ROOT None None None (Some info.description) (Some info.position) (Some info.max_users) [] []
 
 -- it is the root, and something describes it
 abbrev pub describes_root : KeptChannel → Bool

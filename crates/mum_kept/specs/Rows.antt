@@ -2,11 +2,10 @@
 use Rattle.std.specs.Prelude.{not, Bool, false, List, [], filter, map}
 use Rattle.mum_base.specs.declared.number.TheConstants.{PLACES}
 use Rattle.mum_tree.specs.declared.channel.Row.{Row}
-use Rattle.mum_tree.specs.Rows.{is_root}
-use Rattle.mum_tree.specs.State.{Pair, TreeState}
+use Rattle.mum_tree.specs.{Rows.is_root, State.Pair, State.TreeState}
 use Rattle.mum_kept.specs.declared.rows.KeptChannel.{KeptChannel}
 
--- the channel as a row of a tree; no place is kept, and 0 stands there
+-- the channel as a row of a tree; no place is kept, and 0 is there
 abbrev pub tree_row : KeptChannel → Row
 tree_row kept = record {
   place = 0;
@@ -29,6 +28,6 @@ is_top channel = is_root channel.id
 abbrev pub below_root : List KeptChannel → List KeptChannel
 below_root channels = filter (λ channel. not (is_top channel)) channels
 
--- each of them behind its parent
+-- each of them after its parent
 abbrev pub children_of : List KeptChannel → List Pair
 children_of channels = map (λ channel. (channel.parent, channel.id)) (below_root channels)

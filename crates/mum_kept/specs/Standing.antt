@@ -2,9 +2,7 @@
 use Rattle.std.specs.Prelude.{◌≡◌, List}
 use Rattle.std.specs.List.{AllByRecursion}
 use Rattle.mum_state.specs.declared.edit.Edit.{Edit}
-use Rattle.mum_state.specs.After.{led_to}
-use Rattle.mum_state.specs.Proper.{IsProper}
-use Rattle.mum_state.specs.State.{StateValue}
+use Rattle.mum_state.specs.{After.led_to, Proper.IsProper, State.StateValue}
 use Rattle.mum_kept.specs.Kept.{kept_policy}
 use Rattle.mum_kept.specs.declared.rows.KeptChannel.{KeptChannel}
 

@@ -106,7 +106,7 @@ fn message_in(alloc: Global, payload: &[u8]) -> Result<Option<Acl>, OutOfMemory>
     }
 }
 
-/// Whether the payload holds a policy that this channel may have.
+// Whether the payload holds a policy that this channel may have.
 pub(crate) fn holds_policy(
     alloc: Global,
     id: ChannelId,
@@ -132,7 +132,7 @@ fn open_policy(alloc: Global) -> ChannelPolicy
     }
 }
 
-/// The policy that the payload holds; an open one where it is no message.
+// The policy that the payload holds; an open one where it is no message.
 pub(crate) fn policy_in(alloc: Global, payload: &[u8]) -> Result<ChannelPolicy, OutOfMemory>
     ensures { IfOk result (λ policy. policy ≡ policy_in payload.now) }
 {

@@ -22,7 +22,7 @@ fn locate(channels: &[KeptChannel], id: ChannelId) -> Option<usize>
         .ok()
 }
 
-/// The channel of a number.
+// The channel of a number.
 pub(crate) fn find(channels: &[KeptChannel], id: ChannelId) -> Option<&KeptChannel>
     requires { Rise (tree_rows channels.now) }
     ensures { option_map tree_row (option_copied result) ≡ row_of (tree_rows channels.now) id }
@@ -33,7 +33,7 @@ pub(crate) fn find(channels: &[KeptChannel], id: ChannelId) -> Option<&KeptChann
     }
 }
 
-/// Whether a channel is there.
+// Whether a channel is there.
 pub(crate) fn is_there(channels: &[KeptChannel], id: ChannelId) -> bool
     requires { Rise (tree_rows channels.now) }
     ensures { result ≡ is_there (tree_rows channels.now) id }
@@ -44,14 +44,14 @@ pub(crate) fn is_there(channels: &[KeptChannel], id: ChannelId) -> bool
     }
 }
 
-/// Whether the number is that of the root.
+// Whether the number is that of the root.
 pub(crate) fn is_root(id: ChannelId) -> bool
     ensures { result ≡ is_root id }
 {
     id.0 == ChannelId::ROOT.0
 }
 
-/// The parent of a channel; itself where it is not there.
+// The parent of a channel; itself where it is not there.
 pub(crate) fn parent_of(channels: &[KeptChannel], id: ChannelId) -> ChannelId
     requires { Rise (tree_rows channels.now) }
     ensures { result ≡ parent_of (tree_of channels.now) id }

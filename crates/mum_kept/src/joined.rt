@@ -3,7 +3,7 @@
 ghost use Rattle.std.specs.Prelude.{◌≡◌, ℕ, ◌+◌, ◌↔◌, ◌<◌, ◌≤◌, ◌==◌, IfOk, IsTrue, if◌then◌else◌};
 ghost use Rattle.std.specs.List.{count_by, list_all, All};
 ghost use Rattle.mum_base.specs.declared.number.ChannelId.{ChannelId};
-ghost use Rattle.mum_tree.specs.declared.links.TheConstants.{LINK_LIMIT};
+ghost use Rattle.mum_tree.specs.declared.links.TheConstants.{CHANNEL_LINK_LIMIT};
 ghost use Rattle.mum_tree.specs.Rows.{Rise};
 ghost use Rattle.mum_tree.specs.State.{is_above, Ordered};
 ghost use Rattle.mum_kept.specs.Good.{AreGoodLinks, count_at, is_end, is_link_of, joins_two};
@@ -13,7 +13,7 @@ use crate::found::is_there;
 use crate::rows::KeptChannel;
 use indexmap::IndexMap;
 use mum_base::{ChannelId, OutOfMemory};
-use mum_tree::LINK_LIMIT;
+use mum_tree::CHANNEL_LINK_LIMIT;
 use std::alloc::Global;
 
 fn joins_two(channels: &[KeptChannel], from: ChannelId, to: ChannelId) -> bool
@@ -52,13 +52,13 @@ fn count_at(counts: &IndexMap<u32, usize>, id: ChannelId) -> usize
 
 // Counts one more link of a channel. Whether that is not too many.
 fn count_one(counts: &mut IndexMap<u32, usize>, id: ChannelId) -> Result<bool, OutOfMemory>
-    ensures few { IfOk result (λ few. IsTrue few ↔ (count_at counts.old.entries id.0 < LINK_LIMIT)) }
+    ensures few { IfOk result (λ few. IsTrue few ↔ (count_at counts.old.entries id.0 < CHANNEL_LINK_LIMIT)) }
     ensures counted { IfOk result (λ few. IsTrue few → (channel : ℕ) →
         count_at counts.new.entries channel
         ≡ count_at counts.old.entries channel + (if id.0 == channel then 1 else 0)) }
 {
     let count = count_at(counts, id);
-    if count >= LINK_LIMIT {
+    if count >= CHANNEL_LINK_LIMIT {
         return Ok(false);
     }
     counts.insert(id.0, count + 1)?;
@@ -73,7 +73,8 @@ fn count_link(
 ) -> Result<bool, OutOfMemory>
     requires { from.0 < to.0 }
     ensures few { IfOk result (λ few. IsTrue few ↔
-        ((count_at counts.old.entries from.0 < LINK_LIMIT) × (count_at counts.old.entries to.0 < LINK_LIMIT))) }
+        ((count_at counts.old.entries from.0 < CHANNEL_LINK_LIMIT)
+        × (count_at counts.old.entries to.0 < CHANNEL_LINK_LIMIT))) }
     ensures counted { IfOk result (λ few. IsTrue few → (channel : ℕ) →
         count_at counts.new.entries channel
         ≡ count_at counts.old.entries channel + (if is_end channel (from, to) then 1 else 0)) }
@@ -89,7 +90,7 @@ fn count_link(
 fn are_few_each(alloc: Global, links: &[(ChannelId, ChannelId)]) -> Result<bool, OutOfMemory>
     requires { All (λ pair. pair.0.0 < pair.1.0) links.now }
     ensures { IfOk result (λ few. IsTrue few ↔
-        ((id : ChannelId) → count_by (is_link_of id) links.now ≤ LINK_LIMIT)) }
+        ((id : ChannelId) → count_by (is_link_of id) links.now ≤ CHANNEL_LINK_LIMIT)) }
 {
     let mut counts = IndexMap::new(alloc);
     for link in links {
@@ -101,7 +102,7 @@ fn are_few_each(alloc: Global, links: &[(ChannelId, ChannelId)]) -> Result<bool,
     Ok(true)
 }
 
-/// Whether these are links that the channels may have.
+// Whether these are links that the channels may have.
 pub(crate) fn are_good_links(
     alloc: Global,
     channels: &[KeptChannel],

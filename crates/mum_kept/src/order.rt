@@ -1,4 +1,4 @@
-//! Kept channels in the order of the tree: each behind its parent.
+//! Kept channels in the order of the tree: each after its parent.
 
 ghost use Rattle.std.specs.Prelude.{◌≡◌, ◌++◌, ℕ, ◌<◌, ◌≤◌, IfOk, OnOk, filter, length, slice_index_or};
 ghost use Rattle.std.specs.List.Sorted.{IsNonDecreasingBy};
@@ -15,7 +15,7 @@ use mum_base::{ChannelId, OutOfMemory};
 use mum_tree::PATH_LIMIT;
 use std::alloc::Global;
 
-// Each channel but the root behind its parent's number, in order of number.
+// Each channel but the root after its parent's number, in order of number.
 fn children_of(
     alloc: Global,
     channels: &[KeptChannel],
@@ -89,7 +89,7 @@ fn add_family(
     Ok(())
 }
 
-/// A channel before its children, and these by their numbers.
+// A channel before its children, and these by their numbers.
 pub(crate) fn tree_order(
     alloc: Global,
     channels: &[KeptChannel],

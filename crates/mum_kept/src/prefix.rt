@@ -104,7 +104,7 @@ fn prefix_text(alloc: Global, number: usize) -> Result<String, OutOfMemory>
     Ok(text)
 }
 
-/// The first prefix with which no name begins.
+// The first prefix with which no name begins.
 pub(crate) fn free_prefix(alloc: Global, channels: &[KeptChannel]) -> Result<String, OutOfMemory>
     requires { length channels.now ≤ PLACES }
     ensures { IfOk result (λ text. string_bytes text ≡ free_prefix channels.now) }
@@ -113,7 +113,7 @@ pub(crate) fn free_prefix(alloc: Global, channels: &[KeptChannel]) -> Result<Str
     prefix_text(alloc, number)
 }
 
-/// The prefix and the number of a channel.
+// The prefix and the number of a channel.
 pub(crate) fn made_name(alloc: Global, prefix: &str, id: ChannelId) -> Result<Text, OutOfMemory>
     ensures { IfOk result (λ name. name ≡ prefix.now ++ decimal id.0) }
 {

@@ -264,7 +264,7 @@ fn push_made(
     Ok(())
 }
 
-// Adds the edits that give the channels their names and their parents, each behind its parent's.
+// Adds the edits that give the channels their names and their parents, each after its parent's.
 fn push_placed(
     alloc: Global,
     channels: &[KeptChannel],

@@ -28,7 +28,7 @@ fn take_seat<'a>(
     Ok(seats.insert((channel.parent.0, channel.name.as_str()))?)
 }
 
-/// Whether no two channels under one parent have one name. The root is under none.
+// Whether no two channels under one parent have one name. The root is under none.
 pub(crate) fn are_apart(alloc: Global, channels: &[KeptChannel]) -> Result<bool, OutOfMemory>
     ensures { IfOk result (λ apart. IsTrue apart ↔ AllPairs AreApart (tree_rows channels.now)) }
 {

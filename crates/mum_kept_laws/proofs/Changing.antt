@@ -1,21 +1,6 @@
 -- The edit of a channel that is not placed yet places it.
-use Rattle.std.proofs.Common.{◌≡◌, ℕ, ◌==◌, ◌||◌, Bool, true, false, cond, List, [], ◌∷◌, map, Option, Some, None, refl, sym, ap, ◌∙◌}
-use Rattle.std.proofs.lemmas.Bool.{eq-eqb, eqb-true, false≢true, ne_eqb}
-use Rattle.mum_base.specs.Channels.{is_among}
-use Rattle.mum_base.specs.declared.number.ChannelId.{ChannelId}
-use Rattle.mum_base.specs.declared.number.TheConstants.ChannelId.{ROOT}
-use Rattle.mum_tree.specs.Change.{Change, given_or, with_given}
-use Rattle.mum_tree.specs.declared.channel.Channel.{Channel}
-use Rattle.mum_tree.specs.declared.channel.Row.{Row}
-use Rattle.mum_tree.specs.Rows.{is_root, number, row_of, Rise}
-use Rattle.mum_tree.specs.State.{changed, plain_info}
-use Rattle.mum_state.specs.Parts.{channel_parts}
-use Rattle.mum_state.proofs.Each.{Each, each_map, each_so, map_each}
-use Rattle.mum_notify.proofs.Families.{same_channel}
-use Rattle.mum_kept.specs.Rebuild.{parent_below_root}
-use Rattle.mum_kept.proofs.Lasting.{found_each}
-use Rattle.mum_kept_laws.proofs.Staged.{is_settled, made, staged, staged_rows}
-use Rattle.mum_kept_laws.proofs.Unplaced.{unplaced, unplaced_rows}
+use Rattle.mum_kept_laws.proofs.Common.{◌≡◌, ℕ, ◌==◌, ◌||◌, Bool, true, false, cond, List, [], ◌∷◌, map, Option, Some, None, refl, sym, ap, ◌∙◌, eq-eqb, eqb-true, false≢true, ne_eqb, is_among, ChannelId, ROOT, Change, given_or, with_given, Channel, Row, is_root, number, row_of, Rise, changed, plain_info, channel_parts, Each, each_map, each_so, map_each, same_channel, parent_below_root, found_each}
+use Rattle.mum_kept_laws.proofs.{Staged.is_settled, Staged.made, Staged.staged, Staged.staged_rows, Unplaced.unplaced, Unplaced.unplaced_rows}
 
 -- what the edit gives
 abbrev pub placing : Row → Change

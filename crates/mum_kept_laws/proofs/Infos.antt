@@ -1,35 +1,6 @@
 -- The edit that describes the root fits, and then each channel is as it is to be.
-use Rattle.std.proofs.Common.{◌≡◌, ℕ, suc, ◌==◌, ◌&&◌, Bool, true, false, not, cond, ℤ, pos, List, [], ◌∷◌, length, filter, map, Option, Some, None, is_none, is_some, refl, sym, ap, subst, ◌∙◌, arith}
-use Rattle.std.specs.Option.{option_map}
-use Rattle.std.specs.Ordering.{int_eq}
-use Rattle.std.proofs.lemmas.Bool.{and_from, and_parts, eqb-true}
-use Rattle.std.proofs.lemmas.Bool.Decides.{Decides-int_eq}
-use Rattle.mum_base.specs.declared.number.ChannelId.{ChannelId}
-use Rattle.mum_base.specs.declared.number.TheConstants.ChannelId.{ROOT}
-use Rattle.mum_tree.specs.declared.channel.ChannelInfo.{ChannelInfo}
-use Rattle.mum_tree.specs.declared.channel.Row.{Row}
-use Rattle.mum_tree.specs.Change.{Change, fault_of_edit, with_change, with_given}
-use Rattle.mum_tree.specs.Rows.{is_root, is_there, number, row_of}
-use Rattle.mum_tree.specs.State.{TreeState, changed, plain_info}
-use Rattle.mum_tree.proofs.Changed.{row_of-map}
-use Rattle.mum_tree.proofs.EditBack.{edits_both_ways}
-use Rattle.mum_tree.proofs.Edits.{informed_proper}
-use Rattle.mum_state.specs.declared.edit.Edit.{Edit}
-use Rattle.mum_state.specs.Applied.{applied}
-use Rattle.mum_state.specs.Parts.{channel_parts}
-use Rattle.mum_state.specs.Proper.{is_text}
-use Rattle.mum_state.specs.State.{StateValue}
-use Rattle.mum_state.proofs.Each.{Each, each_so, map_each, map_stays}
-use Rattle.mum_state.proofs.Editing.{named_in_tree}
-use Rattle.mum_config.proofs.Bare.{IsBare, Leads, leads, less_left}
-use Rattle.mum_config.proofs.FitChannels.{one_there}
-use Rattle.mum_kept.specs.declared.rows.KeptChannel.{KeptChannel}
-use Rattle.mum_kept.specs.Rebuild.{describes_root, info_edit, info_edits, is_plain}
-use Rattle.mum_kept.specs.Rows.{is_top, tree_row, tree_rows}
-use Rattle.mum_kept_laws.proofs.Changing.{IsUndescribed, map_map}
-use Rattle.mum_kept_laws.proofs.Makes.{hidden_rows}
-use Rattle.mum_kept_laws.proofs.Passing.{Passes, nothing_passes, one_passes}
-use Rattle.mum_kept_laws.proofs.Unplaced.{unplaced, unplaced_rows}
+use Rattle.mum_kept_laws.proofs.Common.{◌≡◌, ℕ, suc, ◌==◌, ◌&&◌, Bool, true, false, not, cond, ℤ, pos, List, [], ◌∷◌, length, filter, map, Option, Some, None, is_none, is_some, refl, sym, ap, subst, ◌∙◌, arith, option_map, int_eq, and_from, and_parts, eqb-true, Decides-int_eq, ChannelId, ROOT, ChannelInfo, Row, Change, fault_of_edit, with_change, with_given, is_root, is_there, number, row_of, TreeState, changed, plain_info, row_of-map, edits_both_ways, informed_proper, Edit, applied, channel_parts, is_text, StateValue, Each, each_so, map_each, map_stays, named_in_tree, IsBare, Leads, leads, less_left, one_there, KeptChannel, describes_root, info_edit, info_edits, is_plain, is_top, tree_row, tree_rows}
+use Rattle.mum_kept_laws.proofs.{Changing.IsUndescribed, Changing.map_map, Makes.hidden_rows, Passing.Passes, Passing.nothing_passes, Passing.one_passes, Unplaced.unplaced, Unplaced.unplaced_rows}
 
 -- ---- rows without their places
 

@@ -1,33 +1,6 @@
 -- What is kept of the state that kept rows make is the rows.
-use Rattle.std.proofs.Common.{◌≡◌, ℕ, ◌<◌, ◌==◌, ◌&&◌, ◌||◌, Bool, true, false, not, cond, nat_lt, List, [], ◌∷◌, filter, map, Option, Some, refl, sym, ap, subst, ◌∙◌, arith}
-use Rattle.std.specs.Prelude.{IsTrue}
-use Rattle.std.specs.List.{list_any}
-use Rattle.std.specs.Option.{option_map, option_map_or}
-use Rattle.std.proofs.lemmas.Bool.{and_from, and_parts, false≢true, ltb-true}
-use Rattle.std.proofs.lemmas.Bool.Decides.{nat_tests}
-use Rattle.std.proofs.lemmas.List.Kept.{AllPairs-filter}
-use Rattle.mum_base.specs.declared.number.ChannelId.{ChannelId}
-use Rattle.mum_policy.specs.declared.policy.ChannelPolicy.{ChannelPolicy}
-use Rattle.mum_tree.specs.declared.channel.Row.{Row}
-use Rattle.mum_tree.specs.Proper.{IsBetween}
-use Rattle.mum_tree.specs.Rows.{is_there, number, row_of}
-use Rattle.mum_tree.specs.State.{Pair, TreeState, is_above, is_pair}
-use Rattle.mum_tree.proofs.Edits.{some_row}
-use Rattle.mum_tree.proofs.Relinked.{same_pairs}
-use Rattle.mum_state.specs.Proper.{IsProper}
-use Rattle.mum_state.specs.State.{StateValue, policy_of}
-use Rattle.mum_state.proofs.Each.{Each, each_find, each_from_all, each_so}
-use Rattle.mum_kept.specs.declared.rows.KeptChannel.{KeptChannel}
-use Rattle.mum_kept.specs.declared.rows.KeptRows.{KeptRows}
-use Rattle.mum_kept.specs.Good.{IsTree, JoinsTwo}
-use Rattle.mum_kept.specs.Kept.{is_kept_link, is_lasting, kept, kept_channel, kept_links, lasts}
-use Rattle.mum_kept.specs.Policy.{policy_in, policy_payload}
-use Rattle.mum_kept.specs.Rows.{tree_rows}
-use Rattle.mum_kept.proofs.Numbered.{each_unmapped}
-use Rattle.mum_kept_laws.specs.RoundTrip.{RebuildFits, RebuiltIsKept, respelled, respelled_rows}
-use Rattle.mum_kept_laws.proofs.Infos.{placeless, placeless_rows}
-use Rattle.mum_kept_laws.proofs.LinkPhase.{IsLinked}
-use Rattle.mum_kept_laws.proofs.Rebuilding.{IsRebuilt, all_pass}
+use Rattle.mum_kept_laws.proofs.Common.{◌≡◌, ℕ, ◌<◌, ◌==◌, ◌&&◌, ◌||◌, Bool, true, false, not, cond, nat_lt, List, [], ◌∷◌, filter, map, Option, Some, refl, sym, ap, subst, ◌∙◌, arith, IsTrue, list_any, option_map, option_map_or, and_from, and_parts, false≢true, ltb-true, nat_tests, AllPairs-filter, ChannelId, ChannelPolicy, Row, IsBetween, is_there, number, row_of, Pair, TreeState, is_above, is_pair, some_row, same_pairs, IsProper, StateValue, policy_of, Each, each_find, each_from_all, each_so, KeptChannel, KeptRows, IsTree, JoinsTwo, is_kept_link, is_lasting, kept, kept_channel, kept_links, lasts, policy_in, policy_payload, tree_rows, each_unmapped, RebuildFits, RebuiltIsKept, respelled, respelled_rows}
+use Rattle.mum_kept_laws.proofs.{Infos.placeless, Infos.placeless_rows, LinkPhase.IsLinked, Rebuilding.IsRebuilt, Rebuilding.all_pass}
 
 -- ---- channels
 

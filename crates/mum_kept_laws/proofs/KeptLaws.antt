@@ -1,22 +1,6 @@
 -- What is kept of a proper state is good, and is kept again of the state that it makes.
-use Rattle.std.proofs.Common.{◌≡◌, ℕ, ◌%◌, ◌^◌, ◌<◌, true, List, [], ◌∷◌, map, Option, refl, sym, ap, subst, ◌∙◌, arith}
-use Rattle.std.specs.Option.{option_map_or}
-use Rattle.mum_base.specs.declared.number.ChannelId.{ChannelId}
-use Rattle.mum_policy.specs.declared.policy.ChannelPolicy.{ChannelPolicy}
-use Rattle.mum_tree.specs.declared.channel.Row.{Row}
-use Rattle.mum_tree.specs.Rows.{is_there}
-use Rattle.mum_state.specs.Proper.{IsProper}
-use Rattle.mum_state.specs.State.{StateValue}
-use Rattle.mum_state.proofs.Each.{Each, each_filter, each_map}
-use Rattle.mum_kept.specs.declared.rows.KeptChannel.{KeptChannel}
-use Rattle.mum_kept.specs.Good.{AreGoodLinks}
-use Rattle.mum_kept.specs.Kept.{kept, kept_channel, kept_channels, kept_links, kept_policy}
-use Rattle.mum_kept.specs.Policy.{policy_in, policy_payload}
-use Rattle.mum_kept_laws.specs.RoundTrip.{CanBeWritten, HaveNumbers, KeptIsGood, KeptIsKeptAgain, respelled}
-use Rattle.mum_kept_laws.proofs.KeptAgain.{rebuilt_is_kept_lem}
-use Rattle.mum_kept_laws.proofs.LinksGood.{links_good}
-use Rattle.mum_kept_laws.proofs.ReadBack.{payload_back}
-use Rattle.mum_kept_laws.proofs.Restricted.{HasSound, all_from_each, channels_good, kept_rows_are, lasting_row, lasting_rows, policy_found, rows_there}
+use Rattle.mum_kept_laws.proofs.Common.{◌≡◌, ℕ, ◌%◌, ◌^◌, ◌<◌, true, List, [], ◌∷◌, map, Option, refl, sym, ap, subst, ◌∙◌, arith, option_map_or, ChannelId, ChannelPolicy, Row, is_there, IsProper, StateValue, Each, each_filter, each_map, KeptChannel, AreGoodLinks, kept, kept_channel, kept_channels, kept_links, kept_policy, policy_in, policy_payload, CanBeWritten, HaveNumbers, KeptIsGood, KeptIsKeptAgain, respelled}
+use Rattle.mum_kept_laws.proofs.{KeptAgain.rebuilt_is_kept_lem, LinksGood.links_good, ReadBack.payload_back, Restricted.HasSound, Restricted.all_from_each, Restricted.channels_good, Restricted.kept_rows_are, Restricted.lasting_row, Restricted.lasting_rows, Restricted.policy_found, Restricted.rows_there}
 
 pub kept_is_good_lem : KeptIsGood
 kept_is_good_lem state proper written = (

@@ -1,3 +1,5 @@
+mod Common
+pub mod Public
 pub mod Passing
 pub mod MadeNames
 pub mod Staged

@@ -1,40 +1,6 @@
 -- The edits of links fit one after the other, and join what they say.
-use Rattle.std.proofs.Common.{◌≡◌, ℕ, suc, ◌+◌, ◌*◌, ◌<◌, ◌≤◌, ◌==◌, ◌&&◌, ◌||◌, Bool, true, false, not, cond, eqb, nat_lt, List, [], ◌∷◌, ◌++◌, length, filter, map, Option, Some, None, count_by, is_none, is_some, append_assoc, append-nil, refl, sym, ap, subst, ◌∙◌, arith}
-use Rattle.std.specs.Prelude.{IsTrue, nat_le, ⊤}
-use Rattle.std.specs.List.{list_any}
-use Rattle.std.proofs.lemmas.Bool.{and_from, eq-eqb, false≢true, ne_eqb}
-use Rattle.std.proofs.lemmas.Bool.Decides.{nat_tests}
-use Rattle.std.proofs.lemmas.List.{length-map}
-use Rattle.std.proofs.lemmas.List.Folds.{list_any-append}
-use Rattle.std.proofs.lemmas.List.Sums.{length-filter}
-use Rattle.mum_base.specs.declared.number.ChannelId.{ChannelId}
-use Rattle.mum_tree.specs.declared.channel.Row.{Row}
-use Rattle.mum_tree.specs.declared.fault.TreeFault.{TreeFault}
-use Rattle.mum_tree.specs.declared.fault.TreeFault.TheVariants.{LinkCount, NoChannel}
-use Rattle.mum_tree.specs.Change.{Change, fault_of_edit, with_change, with_given}
-use Rattle.mum_tree.specs.Proper.{IsProper as IsProperTree}
-use Rattle.mum_tree.specs.Refusals.{fault_of_link}
-use Rattle.mum_tree.specs.Rows.{is_there, number, row_of}
-use Rattle.mum_tree.specs.State.{Ordered, Pair, TreeState, are_linked, changed, is_above, is_pair, pairs_with, partners, starts_at, with_link, with_pair}
-use Rattle.mum_tree.proofs.EditBack.{edits_both_ways}
-use Rattle.mum_tree.proofs.Find.{AllPairs-tail}
-use Rattle.mum_tree.proofs.Joined.{count_with}
-use Rattle.mum_tree.proofs.LinkBack.{link_both_ways}
-use Rattle.mum_state.specs.declared.edit.Edit.{Edit}
-use Rattle.mum_state.specs.Applied.{applied}
-use Rattle.mum_state.specs.Parts.{channel_parts}
-use Rattle.mum_state.specs.State.{StateValue}
-use Rattle.mum_state.proofs.Each.{Each, each_append, each_both, each_from_all, each_so, none_passes}
-use Rattle.mum_state.proofs.Editing.{named_in_tree}
-use Rattle.mum_users.proofs.Counts.{count_by-cons, count_by-filter-le}
-use Rattle.mum_config.proofs.Bare.{IsBare, Leads, leads, less_left}
-use Rattle.mum_kept.specs.declared.rows.KeptChannel.{KeptChannel}
-use Rattle.mum_kept.specs.Good.{JoinsTwo, is_link_of}
-use Rattle.mum_kept.specs.Rebuild.{link_edit}
-use Rattle.mum_kept.specs.Rows.{tree_rows}
-use Rattle.mum_kept_laws.proofs.Counting.{count_append, count_apart}
-use Rattle.mum_kept_laws.proofs.Infos.{placeless_rows, there_placeless}
-use Rattle.mum_kept_laws.proofs.Passing.{Passes, nothing_passes, one_passes}
+use Rattle.mum_kept_laws.proofs.Common.{◌≡◌, ℕ, suc, ◌+◌, ◌*◌, ◌<◌, ◌≤◌, ◌==◌, ◌&&◌, ◌||◌, Bool, true, false, not, cond, eqb, nat_lt, List, [], ◌∷◌, ◌++◌, length, filter, map, Option, Some, None, count_by, is_none, is_some, append_assoc, append-nil, refl, sym, ap, subst, ◌∙◌, arith, IsTrue, nat_le, ⊤, list_any, and_from, eq-eqb, false≢true, ne_eqb, nat_tests, length-map, list_any-append, length-filter, ChannelId, Row, TreeFault, LinkCount, NoChannel, Change, fault_of_edit, with_change, with_given, IsProperTree, fault_of_link, is_there, number, row_of, Ordered, Pair, TreeState, are_linked, changed, is_above, is_pair, pairs_with, partners, starts_at, with_link, with_pair, edits_both_ways, AllPairs-tail, count_with, link_both_ways, Edit, applied, channel_parts, StateValue, Each, each_append, each_both, each_from_all, each_so, none_passes, named_in_tree, count_by-cons, count_by-filter-le, IsBare, Leads, leads, less_left, KeptChannel, JoinsTwo, is_link_of, link_edit, tree_rows}
+use Rattle.mum_kept_laws.proofs.{Counting.count_append, Counting.count_apart, Infos.placeless_rows, Infos.there_placeless, Passing.Passes, Passing.nothing_passes, Passing.one_passes}
 
 -- the channels are as they are to be, and these links join them
 pub record IsLinked (channels : List KeptChannel) (met : List Pair) (tree : TreeState) : Type 0 where

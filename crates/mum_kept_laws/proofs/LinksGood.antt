@@ -1,30 +1,6 @@
 -- The links that are kept of a proper tree are those between two different channels, each once, few at each channel.
-use Rattle.std.proofs.Common.{◌≡◌, ℕ, suc, ◌<◌, ◌≤◌, ◌==◌, ◌&&◌, ◌||◌, Bool, true, false, not, cond, nat_lt, List, [], ◌∷◌, length, filter, map, Option, Some, None, is_some, refl, sym, ap, ◌∙◌, arith}
-use Rattle.std.specs.Prelude.{IsTrue}
-use Rattle.std.specs.List.{count_by, list_any}
-use Rattle.std.specs.Option.{option_map, option_map_or}
-use Rattle.std.proofs.lemmas.Bool.{and_from, and_parts, eq-eqb, eqb-true, false≢true, ltb-true}
-use Rattle.std.proofs.lemmas.Bool.Decides.{nat_tests}
-use Rattle.std.proofs.lemmas.List.{length-map}
-use Rattle.std.proofs.lemmas.List.Kept.{AllPairs-filter}
-use Rattle.std.proofs.lemmas.List.Sums.{length-filter}
-use Rattle.mum_base.specs.Channels.{is_among}
-use Rattle.mum_base.specs.declared.number.ChannelId.{ChannelId}
-use Rattle.mum_tree.specs.declared.channel.Row.{Row}
-use Rattle.mum_tree.specs.Proper.{IsProper as IsProperTree}
-use Rattle.mum_tree.specs.Rows.{is_there, row_of}
-use Rattle.mum_tree.specs.State.{Ordered, Pair, TreeState, is_above, is_pair, partners, starts_at}
-use Rattle.mum_tree.proofs.Find.{AllPairs-tail}
-use Rattle.mum_tree.proofs.Partners.{linked_back}
-use Rattle.mum_users.proofs.Counts.{count_by-cons}
-use Rattle.mum_state.proofs.Each.{Each, each_filter, each_from_all, each_self, each_so}
-use Rattle.mum_notify.proofs.Families.{same_channel}
-use Rattle.mum_kept.specs.Good.{AreGoodLinks, JoinsTwo, is_link_of}
-use Rattle.mum_kept.specs.Kept.{is_kept_link, is_lasting, kept_links, lasts}
-use Rattle.mum_kept_laws.proofs.Counting.{AreOnce, few_among, occurs}
-use Rattle.mum_kept_laws.proofs.Infos.{placeless_rows}
-use Rattle.mum_kept_laws.proofs.OrderLength.{none_counted}
-use Rattle.mum_kept_laws.proofs.Restricted.{all_from_each, each_kept, lasting_found, lasting_rows}
+use Rattle.mum_kept_laws.proofs.Common.{◌≡◌, ℕ, suc, ◌<◌, ◌≤◌, ◌==◌, ◌&&◌, ◌||◌, Bool, true, false, not, cond, nat_lt, List, [], ◌∷◌, length, filter, map, Option, Some, None, is_some, refl, sym, ap, ◌∙◌, arith, IsTrue, count_by, list_any, option_map, option_map_or, and_from, and_parts, eq-eqb, eqb-true, false≢true, ltb-true, nat_tests, length-map, AllPairs-filter, length-filter, is_among, ChannelId, Row, IsProperTree, is_there, row_of, Ordered, Pair, TreeState, is_above, is_pair, partners, starts_at, AllPairs-tail, linked_back, count_by-cons, Each, each_filter, each_from_all, each_self, each_so, same_channel, AreGoodLinks, JoinsTwo, is_link_of, is_kept_link, is_lasting, kept_links, lasts}
+use Rattle.mum_kept_laws.proofs.{Counting.AreOnce, Counting.few_among, Counting.occurs, Infos.placeless_rows, OrderLength.none_counted, Restricted.all_from_each, Restricted.each_kept, Restricted.lasting_found, Restricted.lasting_rows}
 
 -- ---- each pair is there once
 

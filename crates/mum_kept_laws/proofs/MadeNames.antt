@@ -1,24 +1,5 @@
 -- The names that channels have until they are placed: a prefix that no name begins with, and a number.
-use Rattle.std.proofs.Common.{◌≡◌, ◌≢◌, ℕ, zero, suc, ◌+◌, ◌-◌, ◌%◌, ◌^◌, ◌<◌, ◌≤◌, ◌==◌, ◌||◌, Bool, true, false, cond, nat_lt, List, [], ◌∷◌, ◌++◌, length, map, get_or, take, Some, None, is_none, refl, sym, ap, ◌∙◌, arith}
-use Rattle.std.specs.Prelude.{slice_index}
-use Rattle.std.specs.Fmt.{decimal}
-use Rattle.std.specs.List.{list_any}
-use Rattle.std.specs.Str.{bytes_eq}
-use Rattle.std.proofs.lemmas.Bool.{false≢true, ne_eqb}
-use Rattle.std.proofs.lemmas.Bool.Decides.{nat_tests}
-use Rattle.std.proofs.lemmas.Fmt.{decimal_by_steps, decimal_injective, length-decimal-le}
-use Rattle.std.proofs.lemmas.List.{length-append}
-use Rattle.std.proofs.lemmas.Slice.Eq.{bytes_eq-Decides}
-use Rattle.mum_base.specs.Name.{has_space_at_edge, is_control_byte}
-use Rattle.mum_tree.specs.declared.channel.Row.{Row}
-use Rattle.mum_tree.specs.Places.{has_place, least_place}
-use Rattle.mum_tree.proofs.Places.{free_unhad, least_free, least_within}
-use Rattle.mum_state.specs.Proper.{is_name}
-use Rattle.mum_state.proofs.Each.{Each, any_alike, any_map, each_append, each_fails, each_so, none_passes}
-use Rattle.mum_kept.specs.declared.rows.KeptChannel.{KeptChannel}
-use Rattle.mum_kept.specs.Prefix.{begins_with, first_unused, free_prefix, prefix, prefix_number}
-use Rattle.mum_kept.specs.Rows.{tree_row}
-use Rattle.mum_kept.proofs.Unused.{first_is_least, same_prefix}
+use Rattle.mum_kept_laws.proofs.Common.{◌≡◌, ◌≢◌, ℕ, zero, suc, ◌+◌, ◌-◌, ◌%◌, ◌^◌, ◌<◌, ◌≤◌, ◌==◌, ◌||◌, Bool, true, false, cond, nat_lt, List, [], ◌∷◌, ◌++◌, length, map, get_or, take, Some, None, is_none, refl, sym, ap, ◌∙◌, arith, slice_index, decimal, list_any, bytes_eq, false≢true, ne_eqb, nat_tests, decimal_by_steps, decimal_injective, length-decimal-le, length-append, bytes_eq-Decides, has_space_at_edge, is_control_byte, Row, has_place, least_place, free_unhad, least_free, least_within, is_name, Each, any_alike, any_map, each_append, each_fails, each_so, none_passes, KeptChannel, begins_with, first_unused, free_prefix, prefix, prefix_number, tree_row, first_is_least, same_prefix}
 
 -- ---- the name is a good one
 

@@ -1,42 +1,6 @@
 -- The edits that make the channels under the root fit one after the other.
-use Rattle.std.proofs.Common.{◌≡◌, ℕ, suc, ◌+◌, ◌^◌, ◌<◌, ◌≤◌, ◌==◌, ◌&&◌, ◌||◌, Bool, true, false, not, cond, eqb, List, [], ◌∷◌, ◌++◌, length, map, reverse, get_or, Option, None, is_none, is_some, append_assoc, append-nil, refl, sym, ap, subst, ◌∙◌, arith, inl, inr, ⊎_elim}
-use Rattle.std.specs.Prelude.{nat_le, ◌⊎◌, ⊤}
-use Rattle.std.specs.Fmt.{decimal}
-use Rattle.std.specs.Option.{option_map_or}
-use Rattle.std.specs.Str.{bytes_eq}
-use Rattle.std.proofs.lemmas.Bool.{and_from, eq-eqb, false≢true, lt-ltb, ne_eqb}
-use Rattle.std.proofs.lemmas.Bool.Decides.{nat_tests}
-use Rattle.std.proofs.lemmas.List.{length-append, map-append}
-use Rattle.mum_base.specs.declared.number.ChannelId.{ChannelId}
-use Rattle.mum_base.specs.declared.number.TheConstants.ChannelId.{ROOT}
-use Rattle.mum_tree.specs.declared.channel.Channel.{Channel}
-use Rattle.mum_tree.specs.declared.channel.Row.{Row}
-use Rattle.mum_tree.specs.declared.fault.TreeFault.TheVariants.{Count, Nesting, NoChannel, SameName, TemporaryParent}
-use Rattle.mum_tree.specs.Places.{least_place}
-use Rattle.mum_tree.specs.Refusals.{fault_of_add, is_full}
-use Rattle.mum_tree.specs.Rows.{has_name_beside, is_root, is_taken, is_temporary, is_there, number, path}
-use Rattle.mum_tree.specs.State.{TreeState, changed, new_row, plain_info, with_info, with_new, with_row}
-use Rattle.mum_tree.proofs.Back.{five}
-use Rattle.mum_tree.proofs.Changed.{changed_none}
-use Rattle.mum_tree.proofs.Edits.{informed}
-use Rattle.mum_tree.proofs.Upward.{upward_root}
-use Rattle.mum_state.specs.declared.edit.Edit.{Edit}
-use Rattle.mum_state.specs.Applied.{applied}
-use Rattle.mum_state.specs.Proper.{is_text}
-use Rattle.mum_state.specs.State.{StateValue}
-use Rattle.mum_state.proofs.Each.{Each, each_append, each_both, each_from_all, each_map, none_passes}
-use Rattle.mum_config.proofs.Bare.{IsBare, Leads, leads, less_left}
-use Rattle.mum_config.proofs.FitChannels.{one_there}
-use Rattle.mum_kept.specs.declared.rows.KeptChannel.{KeptChannel}
-use Rattle.mum_kept.specs.Prefix.{prefix}
-use Rattle.mum_kept.specs.Rebuild.{make_edit}
-use Rattle.mum_kept.specs.Rows.{tree_row, tree_rows}
-use Rattle.mum_kept_laws.proofs.Changing.{IsUndescribed}
-use Rattle.mum_kept_laws.proofs.MadeNames.{made_name_good, made_names_differ}
-use Rattle.mum_kept_laws.proofs.Passing.{Passes, nothing_passes, one_passes}
-use Rattle.mum_kept_laws.proofs.PlacePhase.{IsStage}
-use Rattle.mum_kept_laws.proofs.Staged.{staged, staged_rows}
-use Rattle.mum_kept_laws.proofs.Unplaced.{taken_unplaced, unplaced, unplaced_rows}
+use Rattle.mum_kept_laws.proofs.Common.{◌≡◌, ℕ, suc, ◌+◌, ◌^◌, ◌<◌, ◌≤◌, ◌==◌, ◌&&◌, ◌||◌, Bool, true, false, not, cond, eqb, List, [], ◌∷◌, ◌++◌, length, map, reverse, get_or, Option, None, is_none, is_some, append_assoc, append-nil, refl, sym, ap, subst, ◌∙◌, arith, inl, inr, ⊎_elim, nat_le, ◌⊎◌, ⊤, decimal, option_map_or, bytes_eq, and_from, eq-eqb, false≢true, lt-ltb, ne_eqb, nat_tests, length-append, map-append, ChannelId, ROOT, Channel, Row, Count, Nesting, NoChannel, SameName, TemporaryParent, least_place, fault_of_add, is_full, has_name_beside, is_root, is_taken, is_temporary, is_there, number, path, TreeState, changed, new_row, plain_info, with_info, with_new, with_row, five, changed_none, informed, upward_root, Edit, applied, is_text, StateValue, Each, each_append, each_both, each_from_all, each_map, none_passes, IsBare, Leads, leads, less_left, one_there, KeptChannel, prefix, make_edit, tree_row, tree_rows}
+use Rattle.mum_kept_laws.proofs.{Changing.IsUndescribed, MadeNames.made_name_good, MadeNames.made_names_differ, Passing.Passes, Passing.nothing_passes, Passing.one_passes, PlacePhase.IsStage, Staged.staged, Staged.staged_rows, Unplaced.taken_unplaced, Unplaced.unplaced, Unplaced.unplaced_rows}
 
 -- the rows that are wanted in the end, but for places and what describes the root
 abbrev pub hidden_rows : List KeptChannel → List Row
@@ -86,7 +50,7 @@ all_named front (channel ∷ channels) = (one (is_root channel.id) refl, all_nam
 over : (limit n : ℕ) → n < limit → nat_le limit n ≡ false
 over limit n few = grind (arith, nat_tests)
 
--- the channel can be made behind those up to this number
+-- the channel can be made after those up to this number
 pub record IsToMake (greatest : ℕ) (channel : KeptChannel) : Type 0 where
   pub above : greatest < channel.id.0
   pub word : channel.id.0 < 2 ^ 32

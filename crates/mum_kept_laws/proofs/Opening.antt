@@ -1,25 +1,5 @@
--- The first limits fit, and the settings and the accounts of a configuration behind them leave the channels as they are.
-use Rattle.std.proofs.Common.{◌≡◌, ℕ, suc, ◌&&◌, ◌||◌, Bool, true, false, not, cond, List, [], ◌∷◌, refl, ap, ◌∙◌, arith}
-use Rattle.std.specs.List.{list_any}
-use Rattle.std.proofs.lemmas.Bool.{and_parts, false≢true}
-use Rattle.mum_tree.specs.declared.channel.Row.{Row}
-use Rattle.mum_tree.specs.State.{TreeState, root_alone}
-use Rattle.mum_users.specs.declared.user.User.{User}
-use Rattle.mum_state.specs.declared.edit.Edit.{Edit}
-use Rattle.mum_state.specs.declared.edit.Edit.TheVariants.{AddAccount, SetServer}
-use Rattle.mum_state.specs.After.{all_fit}
-use Rattle.mum_state.specs.Applied.{applied}
-use Rattle.mum_state.specs.Counts.{raised_where}
-use Rattle.mum_state.specs.Emptied.{empties, has_member, is_emptied}
-use Rattle.mum_state.specs.Fits.{fits, gives_right_numbers, is_countable, sets_properly}
-use Rattle.mum_state.specs.Kinds.{is_of_configuration}
-use Rattle.mum_state.specs.Named.{names_there}
-use Rattle.mum_state.specs.Set.{set_by}
-use Rattle.mum_state.specs.State.{StateValue, empty_state}
-use Rattle.mum_state.proofs.Each.{Each}
-use Rattle.mum_config.specs.Limits.{FitAfterLimits, is_beside_channels, settings_and_accounts}
-use Rattle.mum_config.proofs.Bare.{IsBare, Leads, empty_bare, leads}
-use Rattle.mum_kept_laws.specs.RoundTrip.{first_limits}
+-- The first limits fit, and the settings and the accounts of a configuration after them leave the channels as they are.
+use Rattle.mum_kept_laws.proofs.Common.{◌≡◌, ℕ, suc, ◌&&◌, ◌||◌, Bool, true, false, not, cond, List, [], ◌∷◌, refl, ap, ◌∙◌, arith, list_any, and_parts, false≢true, Row, TreeState, root_alone, User, Edit, AddAccount, SetServer, all_fit, applied, raised_where, empties, has_member, is_emptied, fits, gives_right_numbers, is_countable, sets_properly, is_of_configuration, names_there, set_by, StateValue, empty_state, Each, FitAfterLimits, is_beside_channels, settings_and_accounts, IsBare, Leads, empty_bare, leads, first_limits}
 use Rattle.mum_kept_laws.proofs.Passing.{Passes, nothing_passes, one_passes, weaker}
 
 -- ---- a setting or an account

@@ -1,25 +1,6 @@
 -- The order of a tree has no more channels than 33 times those that there are.
-use Rattle.std.proofs.Common.{◌≡◌, ℕ, zero, suc, ◌+◌, ◌*◌, ◌≤◌, ◌<◌, ◌==◌, ◌||◌, Bool, true, false, not, cond, List, [], ◌∷◌, length, map, refl, sym, ap, ◌∙◌, arith}
-use Rattle.std.specs.List.{count_by, flat_map}
-use Rattle.std.proofs.lemmas.Bool.{and_parts, eq-eqb, eqb-true, false≢true, ne_eqb}
-use Rattle.std.proofs.lemmas.Bool.Decides.{nat_tests}
-use Rattle.std.proofs.lemmas.Grind.{flat_map-append}
-use Rattle.std.proofs.lemmas.List.{length-append, length-map}
-use Rattle.mum_base.specs.Channels.{is_among}
-use Rattle.mum_base.specs.declared.number.ChannelId.{ChannelId}
-use Rattle.mum_base.specs.declared.number.TheConstants.ChannelId.{ROOT}
-use Rattle.mum_tree.specs.declared.channel.Row.{Row}
-use Rattle.mum_tree.specs.Refusals.{parent_of}
-use Rattle.mum_tree.specs.Rows.{is_root, number, Rise}
-use Rattle.mum_tree.specs.State.{TreeState}
-use Rattle.mum_tree.proofs.Find.{AllPairs-tail}
-use Rattle.mum_users.proofs.Counts.{count_by-cons, count_by-filter-le, count_by-filter_none}
-use Rattle.mum_state.proofs.Each.{Each, each_filter, each_from_all, each_so}
-use Rattle.mum_notify.proofs.Families.{same_channel}
-use Rattle.mum_notify.specs.Channels.{channel_ids, children, family, is_child}
-use Rattle.mum_notify.specs.Sync.{tree_order}
-use Rattle.mum_kept_laws.proofs.Counting.{AreOnce, count_append, few_among, occurs}
-use Rattle.mum_kept_laws.proofs.TreeOrder.{flat_there}
+use Rattle.mum_kept_laws.proofs.Common.{◌≡◌, ℕ, zero, suc, ◌+◌, ◌*◌, ◌≤◌, ◌<◌, ◌==◌, ◌||◌, Bool, true, false, not, cond, List, [], ◌∷◌, length, map, refl, sym, ap, ◌∙◌, arith, count_by, flat_map, and_parts, eq-eqb, eqb-true, false≢true, ne_eqb, nat_tests, flat_map-append, length-append, length-map, is_among, ChannelId, ROOT, Row, parent_of, is_root, number, Rise, TreeState, AllPairs-tail, count_by-cons, count_by-filter-le, count_by-filter_none, Each, each_filter, each_from_all, each_so, same_channel, channel_ids, children, family, is_child, tree_order}
+use Rattle.mum_kept_laws.proofs.{Counting.AreOnce, Counting.count_append, Counting.few_among, Counting.occurs, TreeOrder.flat_there}
 
 pub none_counted : {X : Type 0} (p : X → Bool) (xs : List X) → Each (λ x. p x ≡ false) xs → count_by p xs ≡ 0
 none_counted p [] all = refl

@@ -1,12 +1,5 @@
 -- Lists of edits that fit one after the other from a state in which nobody is, and what holds after them.
-use Rattle.std.proofs.Common.{◌≡◌, ℕ, true, List, [], ◌∷◌, ◌++◌, refl, sym, subst}
-use Rattle.std.proofs.lemmas.Bool.{and_parts}
-use Rattle.mum_state.specs.declared.edit.Edit.{Edit}
-use Rattle.mum_state.specs.After.{all_fit, led_to}
-use Rattle.mum_state.specs.Applied.{applied}
-use Rattle.mum_state.specs.Fits.{fits}
-use Rattle.mum_state.specs.State.{StateValue}
-use Rattle.mum_config.proofs.Bare.{IsBare, Leads, one_more}
+use Rattle.mum_kept_laws.proofs.Common.{◌≡◌, ℕ, true, List, [], ◌∷◌, ◌++◌, refl, sym, subst, and_parts, Edit, all_fit, led_to, applied, fits, StateValue, IsBare, Leads, one_more}
 
 pub record Passes (left : ℕ) (state : StateValue) (edits : List Edit) (P : StateValue → Type 0) : Type 0 where
   pub fit : all_fit state edits ≡ true

@@ -1,42 +1,8 @@
 -- The edits that give channels their names and their parents fit one after the other, and leave the channels as they are
 -- to be.
-use Rattle.std.proofs.Common.{◌≡◌, ℕ, suc, ◌+◌, ◌==◌, ◌&&◌, ◌||◌, Bool, true, false, not, cond, List, [], ◌∷◌, ◌++◌, length, filter, map, Option, Some, None, is_none, is_some, refl, sym, ap, subst, ◌∙◌, arith, ⊎_elim}
-use Rattle.std.specs.List.{Contains, list_all}
-use Rattle.std.specs.Option.{option_map, option_map_or}
-use Rattle.std.proofs.lemmas.Bool.{and_from, eq-eqb, eqb-true, false≢true, or_right}
-use Rattle.std.proofs.lemmas.Option.{same_Some}
-use Rattle.std.proofs.lemmas.Slice.Eq.{bytes_eq-Decides}
-use Rattle.mum_base.specs.Channels.{is_among}
-use Rattle.mum_base.specs.declared.number.ChannelId.{ChannelId}
-use Rattle.mum_base.specs.declared.number.TheConstants.ChannelId.{ROOT}
-use Rattle.mum_tree.specs.declared.fault.TreeFault.{TreeFault}
-use Rattle.mum_tree.specs.declared.fault.TreeFault.TheVariants.{LinkCount, NoChannel}
-use Rattle.mum_tree.specs.declared.channel.Row.{Row}
-use Rattle.mum_tree.specs.Change.{Change, fault_of_edit, given_or, names_there, overlinks, parent_after, renames_or_moves, with_change, with_given}
-use Rattle.mum_tree.specs.Refusals.{fault_of_placement, name_of, parent_of}
-use Rattle.mum_tree.specs.Rows.{is_root, is_there, number, row_of, upward}
-use Rattle.mum_tree.specs.State.{TreeState, changed}
-use Rattle.mum_tree.proofs.Changed.{number_found}
-use Rattle.mum_tree.proofs.Edits.{some_row}
-use Rattle.mum_tree.proofs.Partners.{no_link_more}
-use Rattle.mum_tree.proofs.Upward.{lead_parent, there_from_lead}
-use Rattle.mum_state.specs.declared.edit.Edit.{Edit}
-use Rattle.mum_state.specs.declared.edit.Edit.TheVariants.{EditChannel}
-use Rattle.mum_state.specs.Applied.{applied}
-use Rattle.mum_state.specs.Named.{given}
-use Rattle.mum_state.specs.Proper.{is_name}
-use Rattle.mum_state.specs.State.{StateValue}
-use Rattle.mum_state.proofs.Each.{Each, each_find, shown}
-use Rattle.mum_state.proofs.Editing.{named_in_tree}
-use Rattle.mum_notify.proofs.Families.{same_channel}
-use Rattle.mum_config.proofs.Bare.{IsBare, Leads, leads, less_left}
-use Rattle.mum_kept.specs.Rebuild.{parent_below_root, place_edit}
-use Rattle.mum_kept_laws.proofs.Changing.{IsUndescribed, changed_undescribed, changed_unplaced, parent_again, parent_given, placing, rows_placed}
-use Rattle.mum_kept_laws.proofs.Passing.{Passes, nothing_passes, one_passes}
-use Rattle.mum_kept_laws.proofs.Placing.{no_cause}
-use Rattle.mum_kept_laws.proofs.Staged.{AreClosed, AreTarget, found_staged, is_settled, made, root_closes, root_stages, staged, staged_rows}
-use Rattle.mum_kept_laws.proofs.TreeOrder.{ParentsFirst, met}
-use Rattle.mum_kept_laws.proofs.Unplaced.{causes, causes_unplaced, found_unplaced, there_unplaced, unplaced, unplaced_rows}
+use Rattle.mum_kept_laws.proofs.Common.{◌≡◌, ℕ, suc, ◌+◌, ◌==◌, ◌&&◌, ◌||◌, Bool, true, false, not, cond, List, [], ◌∷◌, ◌++◌, length, filter, map, Option, Some, None, is_none, is_some, refl, sym, ap, subst, ◌∙◌, arith, ⊎_elim, Contains, list_all, option_map, option_map_or, and_from, eq-eqb, eqb-true, false≢true, or_right, same_Some, bytes_eq-Decides, is_among, ChannelId, ROOT, TreeFault, LinkCount, NoChannel, Row, Change, fault_of_edit, given_or, overlinks, parent_after, renames_or_moves, with_change, with_given, fault_of_placement, name_of, parent_of, is_root, is_there, number, row_of, upward, TreeState, changed, number_found, some_row, no_link_more, lead_parent, there_from_lead, Edit, EditChannel, applied, given, is_name, StateValue, Each, each_find, shown, named_in_tree, same_channel, IsBare, Leads, leads, less_left, parent_below_root, place_edit}
+use Rattle.mum_tree.specs.Change.{names_there}
+use Rattle.mum_kept_laws.proofs.{Changing.IsUndescribed, Changing.changed_undescribed, Changing.changed_unplaced, Changing.parent_again, Changing.parent_given, Changing.placing, Changing.rows_placed, Passing.Passes, Passing.nothing_passes, Passing.one_passes, Placing.no_cause, Staged.AreClosed, Staged.AreTarget, Staged.found_staged, Staged.is_settled, Staged.made, Staged.root_closes, Staged.root_stages, Staged.staged, Staged.staged_rows, TreeOrder.ParentsFirst, TreeOrder.met, Unplaced.causes, Unplaced.causes_unplaced, Unplaced.found_unplaced, Unplaced.there_unplaced, Unplaced.unplaced, Unplaced.unplaced_rows}
 
 -- these channels are placed, and no links are there
 pub record IsStage (prefix : List ℕ) (rows : List Row) (done : List ChannelId) (tree : TreeState) : Type 0 where

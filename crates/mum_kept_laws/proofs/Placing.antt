@@ -1,28 +1,6 @@
 -- One channel more gets its name and its parent.
-use Rattle.std.proofs.Common.{◌≡◌, ℕ, ◌+◌, ◌≤◌, ◌==◌, ◌&&◌, ◌||◌, Bool, true, false, cond, nat_lt, List, [], ◌∷◌, ◌++◌, length, Option, Some, None, is_some, refl, sym, ap, ◌∙◌, arith}
-use Rattle.std.specs.List.{Contains, list_any}
-use Rattle.std.specs.Option.{option_map, option_map_or}
-use Rattle.std.proofs.lemmas.Bool.{eq-eqb, eqb-true, false≢true, ne_eqb, or_parts}
-use Rattle.std.proofs.lemmas.Bool.Decides.{nat_tests}
-use Rattle.std.proofs.lemmas.List.{length-reverse}
-use Rattle.mum_base.specs.Channels.{is_among}
-use Rattle.mum_base.specs.declared.number.ChannelId.{ChannelId}
-use Rattle.mum_base.specs.declared.number.TheConstants.ChannelId.{ROOT}
-use Rattle.mum_tree.specs.declared.channel.Row.{Row}
-use Rattle.mum_tree.specs.declared.channel.TheConstants.{PATH_LIMIT}
-use Rattle.mum_tree.specs.declared.fault.TreeFault.TheVariants.{Nesting, RootFixed, SameName, TemporaryParent, UnderItself}
-use Rattle.mum_tree.specs.Proper.{AreApart}
-use Rattle.mum_tree.specs.Rows.{has_name_beside, is_below, is_root, is_taken, is_temporary, nests, number, path, row_of, upward}
-use Rattle.mum_tree.proofs.Back.{five}
-use Rattle.mum_tree.proofs.Changed.{number_found}
-use Rattle.mum_tree.proofs.Depths.{upward_within}
-use Rattle.mum_tree.proofs.Shrunk.{list_any-reverse}
-use Rattle.mum_tree.proofs.Upward.{lead_parent, upward_more}
-use Rattle.mum_state.proofs.Each.{Each, any_map, each_find, each_so, none_passes}
-use Rattle.mum_notify.proofs.Families.{same_channel}
-use Rattle.mum_kept.proofs.Lasting.{found_each}
-use Rattle.mum_kept_laws.proofs.Staged.{AreClosed, AreTarget, apart_from, beside, found_staged, is_settled, made, staged, staged_rows, up_made, up_settled}
-use Rattle.mum_kept_laws.proofs.Unplaced.{causes}
+use Rattle.mum_kept_laws.proofs.Common.{◌≡◌, ℕ, ◌+◌, ◌≤◌, ◌==◌, ◌&&◌, ◌||◌, Bool, true, false, cond, nat_lt, List, [], ◌∷◌, ◌++◌, length, Option, Some, None, is_some, refl, sym, ap, ◌∙◌, arith, Contains, list_any, option_map, option_map_or, eq-eqb, eqb-true, false≢true, ne_eqb, or_parts, nat_tests, length-reverse, is_among, ChannelId, ROOT, Row, PATH_LIMIT, Nesting, RootFixed, SameName, TemporaryParent, UnderItself, AreApart, has_name_beside, is_below, is_root, is_taken, is_temporary, nests, number, path, row_of, upward, five, number_found, upward_within, list_any-reverse, lead_parent, upward_more, Each, any_map, each_find, each_so, none_passes, same_channel, found_each}
+use Rattle.mum_kept_laws.proofs.{Staged.AreClosed, Staged.AreTarget, Staged.apart_from, Staged.beside, Staged.found_staged, Staged.is_settled, Staged.made, Staged.staged, Staged.staged_rows, Staged.up_made, Staged.up_settled, Unplaced.causes}
 
 -- a channel that is not settled is none of these
 not_settled : (done : List ChannelId) (id : ChannelId) → is_settled done id ≡ false → (ids : List ChannelId) → Each (λ one. is_settled done one ≡ true) ids → Each (λ one. (one.0 == id.0) ≡ false) ids

@@ -1,28 +1,5 @@
 -- The edits that set policies fit one after the other, and then each channel has its own.
-use Rattle.std.proofs.Common.{◌≡◌, ℕ, suc, ◌+◌, ◌<◌, ◌==◌, ◌&&◌, Bool, true, false, not, cond, List, [], ◌∷◌, length, map, Option, Some, None, is_some, refl, sym, ap, subst, ◌∙◌, arith}
-use Rattle.std.specs.Prelude.{unwrap_or}
-use Rattle.std.specs.List.{AllPairs, find, list_all, list_any}
-use Rattle.std.specs.Option.{option_map, option_map_or}
-use Rattle.std.proofs.lemmas.Bool.{and_parts, eq-eqb, eqb-true, false≢true, ne_eqb}
-use Rattle.mum_base.specs.declared.number.ChannelId.{ChannelId}
-use Rattle.mum_msg_rule.specs.declared.acl.Acl.{Acl}
-use Rattle.mum_policy.specs.declared.policy.ChannelPolicy.{ChannelPolicy}
-use Rattle.mum_tree.specs.declared.channel.Row.{Row}
-use Rattle.mum_tree.specs.Rows.{is_there, number}
-use Rattle.mum_tree.specs.State.{TreeState}
-use Rattle.mum_tree.proofs.Find.{AllPairs-tail}
-use Rattle.mum_state.specs.declared.edit.Edit.{Edit}
-use Rattle.mum_state.specs.Applied.{applied}
-use Rattle.mum_state.specs.Proper.{IsProper, is_sound_policy}
-use Rattle.mum_state.specs.Set.{set_policy, with_policy}
-use Rattle.mum_state.specs.State.{PolicyRow, StateValue, open_policy, policy_of}
-use Rattle.mum_state.proofs.Each.{Each, any_map, each_from_all, each_so, found_passes, some_found}
-use Rattle.mum_rules_tree.specs.Policy.{policy_asked}
-use Rattle.mum_config.proofs.Bare.{IsBare, Leads, leads, less_left}
-use Rattle.mum_config.proofs.FitChannels.{one_there}
-use Rattle.mum_kept.specs.declared.rows.KeptChannel.{KeptChannel}
-use Rattle.mum_kept.specs.Policy.{has_known_bits, holds_policy, is_about, is_answer_of, message_in, policy_in}
-use Rattle.mum_kept.specs.Rebuild.{policy_edit}
+use Rattle.mum_kept_laws.proofs.Common.{◌≡◌, ℕ, suc, ◌+◌, ◌<◌, ◌==◌, ◌&&◌, Bool, true, false, not, cond, List, [], ◌∷◌, length, map, Option, Some, None, is_some, refl, sym, ap, subst, ◌∙◌, arith, unwrap_or, AllPairs, find, list_all, list_any, option_map, option_map_or, and_parts, eq-eqb, eqb-true, false≢true, ne_eqb, ChannelId, Acl, ChannelPolicy, Row, is_there, number, TreeState, AllPairs-tail, Edit, applied, IsProper, is_sound_policy, set_policy, with_policy, PolicyRow, StateValue, open_policy, policy_of, Each, any_map, each_from_all, each_so, found_passes, some_found, policy_asked, IsBare, Leads, leads, less_left, one_there, KeptChannel, has_known_bits, holds_policy, is_about, is_answer_of, message_in, policy_in, policy_edit}
 use Rattle.mum_kept_laws.proofs.Passing.{Passes, nothing_passes, one_passes, weaker}
 
 -- ---- a policy that is kept is sound

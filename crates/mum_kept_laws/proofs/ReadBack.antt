@@ -1,29 +1,5 @@
 -- The policy that is written for a channel is read back as it was.
-use Rattle.std.proofs.Common.{◌≡◌, ℕ, ◌==◌, ◌&&◌, true, not, List, [], ◌∷◌, filter, map, Option, None, Ok, refl, ap, ◌∙◌}
-use Rattle.std.specs.Prelude.{bit_and}
-use Rattle.std.specs.List.{list_all}
-use Rattle.std.proofs.lemmas.Bool.{and_from, and_parts, eq-eqb, eqb-true}
-use Rattle.std.proofs.lemmas.Nat.{and_comm}
-use Rattle.mum_base.specs.declared.number.AccountId.{AccountId}
-use Rattle.mum_base.specs.declared.number.ChannelId.{ChannelId}
-use Rattle.mum_base.specs.declared.perm.TheConstants.Perm.{ALL}
-use Rattle.mum_fields.specs.Table.{decoded, layout, least, lesser, missing, parts}
-use Rattle.mum_fields.specs.Typed.{AreTyped}
-use Rattle.mum_fields.proofs.ReadBack.{read_back}
-use Rattle.mum_msg_rule.specs.declared.acl_group.AclGroup.{AclGroup}
-use Rattle.mum_msg_rule.specs.declared.acl_line.AclLine.{AclLine}
-use Rattle.mum_msg_rule.specs.Messages.{acl, acl_group, acl_line}
-use Rattle.mum_policy.specs.declared.policy.AclEntry.{AclEntry}
-use Rattle.mum_policy.specs.declared.policy.ChannelPolicy.{ChannelPolicy}
-use Rattle.mum_policy.specs.declared.policy.Group.{Group as GroupRow}
-use Rattle.mum_policy.specs.declared.policy.Whom.{Whom}
-use Rattle.mum_policy.specs.declared.policy.Whom.TheVariants.{Account, Group}
-use Rattle.mum_policy.specs.Limits.{is_large_policy}
-use Rattle.mum_policy.specs.Walk.{holds}
-use Rattle.mum_state.specs.Proper.{is_name, is_sound_entry, is_sound_policy}
-use Rattle.mum_rules_tree.specs.Policy.{accounts, acl_told, entry_asked, group_asked, group_told, is_inherited, line_told, numbers, policy_asked, whom_asked}
-use Rattle.mum_kept.specs.Policy.{has_known_bits, holds_policy, policy_in, policy_payload}
-use Rattle.mum_kept.proofs.Payloads.{held, policy_read}
+use Rattle.mum_kept_laws.proofs.Common.{◌≡◌, ℕ, ◌==◌, ◌&&◌, true, not, List, [], ◌∷◌, filter, map, Option, None, Ok, refl, ap, ◌∙◌, bit_and, list_all, and_from, and_parts, eq-eqb, eqb-true, and_comm, AccountId, ChannelId, ALL, decoded, layout, least, lesser, missing, parts, AreTyped, read_back, AclGroup, AclLine, acl, acl_group, acl_line, AclEntry, ChannelPolicy, GroupRow, Whom, Account, Group, is_large_policy, holds, is_name, is_sound_entry, is_sound_policy, accounts, acl_told, entry_asked, group_asked, group_told, is_inherited, line_told, numbers, policy_asked, whom_asked, has_known_bits, holds_policy, policy_in, policy_payload, held, policy_read}
 
 -- ---- nothing is missing
 
@@ -49,7 +25,7 @@ told_whole id policy =
 pub payload_read : (id : ChannelId) (policy : ChannelPolicy) → AreTyped (layout acl) (parts acl (acl_told id policy)) → decoded acl (policy_payload id policy) ≡ Ok (parts acl (acl_told id policy))
 payload_read id policy typed = read_back acl (acl_told id policy) refl typed (told_whole id policy)
 
--- ---- what was told is asked
+-- ---- what was reported is asked
 
 accounts_back : (listed : List AccountId) → accounts (numbers listed) ≡ listed
 accounts_back [] = refl

@@ -1,46 +1,6 @@
 -- The edits that make kept channels again fit one after the other, and make them.
-use Rattle.std.proofs.Common.{◌≡◌, ℕ, suc, ◌+◌, ◌^◌, ◌<◌, ◌≤◌, ◌||◌, Bool, true, false, not, cond, List, [], ◌∷◌, ◌++◌, length, map, Option, Some, is_some, refl, sym, ap, subst, ◌∙◌, arith, inl}
-use Rattle.std.specs.List.{AllPairs}
-use Rattle.std.proofs.lemmas.Bool.{false≢true, or_right}
-use Rattle.std.proofs.lemmas.Option.{none-some}
-use Rattle.mum_base.specs.Channels.{is_among}
-use Rattle.mum_base.specs.declared.number.ChannelId.{ChannelId}
-use Rattle.mum_base.specs.declared.number.TheConstants.ChannelId.{ROOT}
-use Rattle.mum_tree.specs.declared.channel.Row.{Row}
-use Rattle.mum_tree.specs.Rows.{is_root, is_there, row_of}
-use Rattle.mum_tree.specs.State.{Pair, TreeState, is_above}
-use Rattle.mum_tree.proofs.Find.{AllPairs-tail}
-use Rattle.mum_state.specs.declared.edit.Edit.{Edit}
-use Rattle.mum_state.specs.After.{led_to}
-use Rattle.mum_state.specs.State.{StateValue, empty_state, policy_of}
-use Rattle.mum_state.proofs.Each.{Each, each_from_all, each_passes, each_so}
-use Rattle.mum_notify.specs.Channels.{channel_ids}
-use Rattle.mum_notify.specs.Sync.{tree_order}
-use Rattle.mum_config.specs.Limits.{FitAfterLimits, settings_and_accounts}
-use Rattle.mum_config.proofs.Bare.{IsBare, less_left}
-use Rattle.mum_kept.specs.declared.rows.KeptChannel.{KeptChannel}
-use Rattle.mum_kept.specs.declared.rows.KeptRows.{KeptRows}
-use Rattle.mum_kept.specs.Good.{AreGoodChannels, AreGoodLinks, IsTree, JoinsTwo, has_policy}
-use Rattle.mum_kept.specs.Policy.{policy_in}
-use Rattle.mum_kept.specs.Prefix.{prefix}
-use Rattle.mum_kept.specs.Rebuild.{info_edits, link_edit, make_edit, make_edits, place_edits, policy_edit, rebuild}
-use Rattle.mum_kept.specs.Rows.{below_root, is_top, tree_of, tree_rows}
-use Rattle.mum_kept.proofs.Lasting.{found_each}
-use Rattle.mum_kept.proofs.Numbered.{channels_rise, rows_many}
-use Rattle.mum_kept_laws.specs.RoundTrip.{HaveNumbers, first_limits, opening_edits}
-use Rattle.mum_kept_laws.proofs.Infos.{IsDescribed, infos_pass, there_placeless}
-use Rattle.mum_kept_laws.proofs.LinkPhase.{AreFresh, IsLinked, fresh_from, links_few, links_pass, none_linked}
-use Rattle.mum_kept_laws.proofs.MadeNames.{free_number, free_within}
-use Rattle.mum_kept_laws.proofs.Makes.{AreToMake, hidden_rows, makes_pass}
-use Rattle.mum_kept_laws.proofs.Opening.{first_tree, opening_pass}
-use Rattle.mum_kept_laws.proofs.OrderLength.{order_few}
-use Rattle.mum_kept_laws.proofs.Passing.{Passes, both_pass, weaker}
-use Rattle.mum_kept_laws.proofs.PlacePhase.{IsStage, places_pass}
-use Rattle.mum_kept_laws.proofs.PolicyPhase.{AreSet, IsToSet, kept_sound, policies_pass}
-use Rattle.mum_kept_laws.proofs.Staged.{AreClosed, all_staged, is_settled}
-use Rattle.mum_kept_laws.proofs.Target.{above_root, are_of, first_stage, named, others_below, root_top, target, text_each, to_make}
-use Rattle.mum_kept_laws.proofs.TreeOrder.{all_in_order, family_first, family_there, met, met_among}
-use Rattle.mum_kept_laws.proofs.Unplaced.{there_unplaced}
+use Rattle.mum_kept_laws.proofs.Common.{◌≡◌, ℕ, suc, ◌+◌, ◌^◌, ◌<◌, ◌≤◌, ◌||◌, Bool, true, false, not, cond, List, [], ◌∷◌, ◌++◌, length, map, Option, Some, is_some, refl, sym, ap, subst, ◌∙◌, arith, inl, AllPairs, false≢true, or_right, none-some, is_among, ChannelId, ROOT, Row, is_root, is_there, row_of, Pair, TreeState, is_above, AllPairs-tail, Edit, led_to, StateValue, empty_state, policy_of, Each, each_from_all, each_passes, each_so, channel_ids, tree_order, FitAfterLimits, settings_and_accounts, IsBare, less_left, KeptChannel, KeptRows, AreGoodChannels, AreGoodLinks, IsTree, JoinsTwo, has_policy, policy_in, prefix, info_edits, link_edit, make_edit, make_edits, place_edits, policy_edit, rebuild, below_root, is_top, tree_of, tree_rows, found_each, channels_rise, rows_many, HaveNumbers, first_limits, opening_edits}
+use Rattle.mum_kept_laws.proofs.{Infos.IsDescribed, Infos.infos_pass, Infos.there_placeless, LinkPhase.AreFresh, LinkPhase.IsLinked, LinkPhase.fresh_from, LinkPhase.links_few, LinkPhase.links_pass, LinkPhase.none_linked, MadeNames.free_number, MadeNames.free_within, Makes.AreToMake, Makes.hidden_rows, Makes.makes_pass, Opening.first_tree, Opening.opening_pass, OrderLength.order_few, Passing.Passes, Passing.both_pass, Passing.weaker, PlacePhase.IsStage, PlacePhase.places_pass, PolicyPhase.AreSet, PolicyPhase.IsToSet, PolicyPhase.kept_sound, PolicyPhase.policies_pass, Staged.AreClosed, Staged.all_staged, Staged.is_settled, Target.above_root, Target.are_of, Target.first_stage, Target.named, Target.others_below, Target.root_top, Target.target, Target.text_each, Target.to_make, TreeOrder.all_in_order, TreeOrder.family_first, TreeOrder.family_there, TreeOrder.met, TreeOrder.met_among, Unplaced.there_unplaced}
 
 -- the channels and the links are those of the rows, and each channel has the policy of its row
 pub record IsRebuilt (rows : KeptRows) (state : StateValue) : Type 0 where

@@ -1,38 +1,6 @@
 -- The channels of a proper state that last are a tree of their own.
-use Rattle.std.proofs.Common.{◌≡◌, ℕ, zero, suc, ◌<◌, ◌≤◌, ◌==◌, Bool, true, false, not, cond, List, [], ◌∷◌, length, filter, map, Option, Some, None, is_some, refl, sym, ap, subst, ◌∙◌, arith}
-use Rattle.std.specs.List.{All, AllPairs, Contains, find, list_all}
-use Rattle.std.specs.Option.{option_map, option_map_or}
-use Rattle.std.proofs.lemmas.Bool.{and_from, and_parts, eqb-true, false≢true}
-use Rattle.std.proofs.lemmas.List.{length-map}
-use Rattle.std.proofs.lemmas.List.Kept.{AllPairs-filter}
-use Rattle.mum_base.specs.declared.number.ChannelId.{ChannelId}
-use Rattle.mum_base.specs.declared.number.TheConstants.ChannelId.{ROOT}
-use Rattle.mum_fields.specs.Table.{layout, parts}
-use Rattle.mum_fields.specs.Typed.{AreTyped}
-use Rattle.mum_msg_rule.specs.Messages.{acl}
-use Rattle.mum_policy.specs.declared.policy.ChannelPolicy.{ChannelPolicy}
-use Rattle.mum_tree.specs.declared.channel.Row.{Row}
-use Rattle.mum_tree.specs.Proper.{AreApart, HasRoot, IsProper as IsProperTree, IsUnderLasting, LeadUp}
-use Rattle.mum_tree.specs.Rows.{is_root, is_temporary, is_there, number, row_of, upward, Rise}
-use Rattle.mum_tree.specs.State.{TreeState}
-use Rattle.mum_tree.proofs.Changed.{AllPairs-map, number_found, row_of-map}
-use Rattle.mum_tree.proofs.Shrunk.{kept_row, there_after}
-use Rattle.mum_tree.proofs.Upward.{upward_missing, upward_root, upward_under, upward_zero}
-use Rattle.mum_state.specs.Proper.{IsProper, is_name, is_sound_channel, is_sound_policy, is_text}
-use Rattle.mum_state.specs.State.{PolicyRow, StateValue, policy_of}
-use Rattle.mum_state.proofs.Each.{Each, each_filter, each_find, each_from_all, each_passes, each_so, none_found}
-use Rattle.mum_notify.proofs.Families.{same_channel}
-use Rattle.mum_rules_tree.specs.Policy.{acl_told}
-use Rattle.mum_kept.specs.declared.rows.KeptChannel.{KeptChannel}
-use Rattle.mum_kept.specs.Good.{AreGoodChannels, has_name, has_policy, has_text}
-use Rattle.mum_kept.specs.Kept.{is_lasting, kept_channel, kept_channels, kept_policy}
-use Rattle.mum_kept.specs.Policy.{holds_policy, policy_payload}
-use Rattle.mum_kept.specs.Rows.{tree_rows}
-use Rattle.mum_kept.proofs.Lasting.{found_each}
-use Rattle.mum_kept_laws.specs.RoundTrip.{CanBeWritten}
-use Rattle.mum_kept_laws.proofs.Infos.{placeless, placeless_rows, there_placeless}
-use Rattle.mum_kept_laws.proofs.PolicyPhase.{is_of, policy_there}
-use Rattle.mum_kept_laws.proofs.ReadBack.{payload_held}
+use Rattle.mum_kept_laws.proofs.Common.{◌≡◌, ℕ, zero, suc, ◌<◌, ◌≤◌, ◌==◌, Bool, true, false, not, cond, List, [], ◌∷◌, length, filter, map, Option, Some, None, is_some, refl, sym, ap, subst, ◌∙◌, arith, All, AllPairs, Contains, find, list_all, option_map, option_map_or, and_from, and_parts, eqb-true, false≢true, length-map, AllPairs-filter, ChannelId, ROOT, layout, parts, AreTyped, acl, ChannelPolicy, Row, AreApart, HasRoot, IsProperTree, IsUnderLasting, LeadUp, is_root, is_temporary, is_there, number, row_of, upward, Rise, TreeState, AllPairs-map, number_found, row_of-map, kept_row, there_after, upward_missing, upward_root, upward_under, upward_zero, IsProper, is_name, is_sound_channel, is_sound_policy, is_text, PolicyRow, StateValue, policy_of, Each, each_filter, each_find, each_from_all, each_passes, each_so, none_found, same_channel, acl_told, KeptChannel, AreGoodChannels, has_name, has_policy, has_text, is_lasting, kept_channel, kept_channels, kept_policy, holds_policy, policy_payload, tree_rows, found_each, CanBeWritten}
+use Rattle.mum_kept_laws.proofs.{Infos.placeless, Infos.placeless_rows, Infos.there_placeless, PolicyPhase.is_of, PolicyPhase.policy_there, ReadBack.payload_held}
 
 -- ---- lists
 

@@ -1,25 +1,6 @@
 -- Channels while they are put in place: those that are placed have their names and parents, the others are under the
 -- root under names of their own.
-use Rattle.std.proofs.Common.{◌≡◌, ℕ, zero, suc, ◌^◌, ◌<◌, ◌==◌, ◌&&◌, ◌||◌, Bool, true, false, not, cond, List, [], ◌∷◌, ◌++◌, map, Option, Some, None, refl, sym, ap, subst, ◌∙◌, arith}
-use Rattle.std.specs.Fmt.{decimal}
-use Rattle.std.specs.List.{AllPairs}
-use Rattle.std.specs.Option.{option_map, option_map_or}
-use Rattle.std.specs.Str.{bytes_eq}
-use Rattle.std.proofs.lemmas.Bool.{or_parts, eq-eqb, eqb-true, false≢true, ne_eqb}
-use Rattle.std.proofs.lemmas.Option.{same_Some}
-use Rattle.std.proofs.lemmas.Slice.Eq.{bytes_eq-Decides}
-use Rattle.mum_base.specs.Channels.{is_among}
-use Rattle.mum_base.specs.declared.number.ChannelId.{ChannelId}
-use Rattle.mum_base.specs.declared.number.TheConstants.ChannelId.{ROOT}
-use Rattle.mum_tree.specs.declared.channel.Channel.{Channel}
-use Rattle.mum_tree.specs.declared.channel.Row.{Row}
-use Rattle.mum_tree.specs.Proper.{AreApart, HasRoot, LeadUp}
-use Rattle.mum_tree.specs.Rows.{has_name_beside, is_root, number, row_of, upward, Rise}
-use Rattle.mum_tree.proofs.Find.{AllPairs-tail}
-use Rattle.mum_tree.proofs.Changed.{number_found, row_of-map}
-use Rattle.mum_tree.proofs.Upward.{upward_root, upward_under}
-use Rattle.mum_state.proofs.Each.{Each, each_find, each_from_all, each_so, map_stays}
-use Rattle.mum_notify.proofs.Families.{same_channel}
+use Rattle.mum_kept_laws.proofs.Common.{◌≡◌, ℕ, zero, suc, ◌^◌, ◌<◌, ◌==◌, ◌&&◌, ◌||◌, Bool, true, false, not, cond, List, [], ◌∷◌, ◌++◌, map, Option, Some, None, refl, sym, ap, subst, ◌∙◌, arith, decimal, AllPairs, option_map, option_map_or, bytes_eq, or_parts, eq-eqb, eqb-true, false≢true, ne_eqb, same_Some, bytes_eq-Decides, is_among, ChannelId, ROOT, Channel, Row, AreApart, HasRoot, LeadUp, has_name_beside, is_root, number, row_of, upward, Rise, AllPairs-tail, number_found, row_of-map, upward_root, upward_under, Each, each_find, each_from_all, each_so, map_stays, same_channel}
 
 -- the root, or one of those that are placed
 abbrev pub is_settled : List ChannelId → ChannelId → Bool

@@ -1,33 +1,6 @@
 -- What is known of the channels of good rows, as rows of a tree.
-use Rattle.std.proofs.Common.{◌≡◌, ℕ, suc, ◌^◌, ◌<◌, ◌==◌, Bool, true, false, cond, codes, List, [], ◌∷◌, ◌++◌, map, Option, Some, refl, sym, ap, subst, ◌∙◌, arith}
-use Rattle.std.specs.Prelude.{⊤}
-use Rattle.std.specs.List.{AllPairs, Contains}
-use Rattle.std.specs.Option.{option_map, option_map_or}
-use Rattle.std.proofs.lemmas.Bool.{eqb-true, ne_eqb}
-use Rattle.std.proofs.lemmas.Option.{same_Some}
-use Rattle.mum_base.specs.declared.number.ChannelId.{ChannelId}
-use Rattle.mum_base.specs.declared.number.TheConstants.ChannelId.{ROOT}
-use Rattle.mum_tree.specs.declared.channel.Row.{Row}
-use Rattle.mum_tree.specs.Proper.{AreApart, HasRoot}
-use Rattle.mum_tree.specs.Rows.{number, row_of, Rise}
-use Rattle.mum_tree.specs.State.{TreeState}
-use Rattle.mum_tree.proofs.Changed.{AllPairs-map}
-use Rattle.mum_tree.proofs.Find.{AllPairs-tail}
-use Rattle.mum_state.specs.Proper.{is_name, is_text}
-use Rattle.mum_state.proofs.Each.{Each, each_find, each_from_all, each_map, each_passes, each_so, shown}
-use Rattle.mum_notify.proofs.Families.{same_channel}
-use Rattle.mum_kept.specs.declared.rows.KeptChannel.{KeptChannel}
-use Rattle.mum_kept.specs.Good.{AreGoodChannels, has_name, has_text}
-use Rattle.mum_kept.specs.Prefix.{free_prefix, prefix}
-use Rattle.mum_kept.specs.Rows.{is_top, tree_of, tree_row, tree_rows}
-use Rattle.mum_kept.proofs.Numbered.{channels_rise}
-use Rattle.mum_kept_laws.specs.RoundTrip.{HaveNumbers}
-use Rattle.mum_kept_laws.proofs.MadeNames.{free_number, unlike_prefix}
-use Rattle.mum_kept_laws.proofs.Makes.{AreToMake, hidden_rows}
-use Rattle.mum_kept_laws.proofs.PlacePhase.{AreOf, IsStage}
-use Rattle.mum_kept_laws.proofs.Opening.{first_tree}
-use Rattle.mum_kept_laws.proofs.Staged.{AreTarget, staged}
-use Rattle.mum_kept_laws.proofs.Unplaced.{found_unplaced, there_unplaced, unplaced, upward_unplaced}
+use Rattle.mum_kept_laws.proofs.Common.{◌≡◌, ℕ, suc, ◌^◌, ◌<◌, ◌==◌, Bool, true, false, cond, codes, List, [], ◌∷◌, ◌++◌, map, Option, Some, refl, sym, ap, subst, ◌∙◌, arith, ⊤, AllPairs, Contains, option_map, option_map_or, eqb-true, ne_eqb, same_Some, ChannelId, ROOT, Row, AreApart, HasRoot, number, row_of, Rise, TreeState, AllPairs-map, AllPairs-tail, is_name, is_text, Each, each_find, each_from_all, each_map, each_passes, each_so, shown, same_channel, KeptChannel, AreGoodChannels, has_name, has_text, free_prefix, prefix, is_top, tree_of, tree_row, tree_rows, channels_rise, HaveNumbers}
+use Rattle.mum_kept_laws.proofs.{MadeNames.free_number, MadeNames.unlike_prefix, Makes.AreToMake, Makes.hidden_rows, PlacePhase.AreOf, PlacePhase.IsStage, Opening.first_tree, Staged.AreTarget, Staged.staged, Unplaced.found_unplaced, Unplaced.there_unplaced, Unplaced.unplaced, Unplaced.upward_unplaced}
 
 each_row : (P : Row → Type 0) (f : KeptChannel → Row) (Q : KeptChannel → Type 0) → ((channel : KeptChannel) → Q channel → P (f channel)) → (channels : List KeptChannel) → Each Q channels → Each P (map f channels)
 each_row P f Q so channels all = each_map Q P f so channels all

@@ -1,23 +1,5 @@
 -- In the order of the tree each channel comes once its parent did, and none is left out.
-use Rattle.std.proofs.Common.{◌≡◌, ℕ, zero, suc, ◌+◌, ◌<◌, ◌==◌, ◌||◌, Bool, true, false, not, cond, List, [], ◌∷◌, ◌++◌, map, filter, Option, Some, is_some, refl, sym, ap, subst, ◌∙◌, arith, inr}
-use Rattle.std.specs.Prelude.{◌⊎◌, ⊤}
-use Rattle.std.specs.List.{Contains, flat_map, list_any}
-use Rattle.std.specs.Option.{option_map_or}
-use Rattle.std.proofs.lemmas.Bool.{and_from, and_parts, eq-eqb, eqb-true, false≢true}
-use Rattle.std.proofs.lemmas.List.Folds.{list_any-append}
-use Rattle.std.proofs.lemmas.Option.{none-some}
-use Rattle.mum_base.specs.Channels.{is_among}
-use Rattle.mum_base.specs.declared.number.ChannelId.{ChannelId}
-use Rattle.mum_base.specs.declared.number.TheConstants.ChannelId.{ROOT}
-use Rattle.mum_tree.specs.declared.channel.Row.{Row}
-use Rattle.mum_tree.specs.Refusals.{parent_of}
-use Rattle.mum_tree.specs.Rows.{is_root, is_there, row_of, upward}
-use Rattle.mum_tree.specs.State.{TreeState}
-use Rattle.mum_state.proofs.Each.{Each, each_append, each_filter}
-use Rattle.mum_tree.proofs.Upward.{lead_parent, none_contained, there_from_lead, upward_zero}
-use Rattle.mum_notify.proofs.Families.{same_channel}
-use Rattle.mum_notify.specs.Channels.{channel_ids, children, family, is_child}
-use Rattle.mum_notify.specs.Sync.{tree_order}
+use Rattle.mum_kept_laws.proofs.Common.{◌≡◌, ℕ, zero, suc, ◌+◌, ◌<◌, ◌==◌, ◌||◌, Bool, true, false, not, cond, List, [], ◌∷◌, ◌++◌, map, filter, Option, Some, is_some, refl, sym, ap, subst, ◌∙◌, arith, inr, ◌⊎◌, ⊤, Contains, flat_map, list_any, option_map_or, and_from, and_parts, eq-eqb, eqb-true, false≢true, list_any-append, none-some, is_among, ChannelId, ROOT, Row, parent_of, is_root, is_there, row_of, upward, TreeState, Each, each_append, each_filter, lead_parent, none_contained, there_from_lead, upward_zero, same_channel, channel_ids, children, family, is_child, tree_order}
 
 -- ---- among
 
@@ -116,7 +98,7 @@ family_there tree (suc levels) id there = (
 
 -- ---- none is left out
 
--- a channel with all that is below it, so many levels deep at least, is among the whole
+-- a channel with all that is below it, n levels deep at least, is among the whole
 record IsWithin (kids : ChannelId → List ChannelId) (whole : List ChannelId) (least : ℕ) (id : ChannelId) : Type 0 where
   low : ℕ
   enough : least < low

@@ -1,16 +1,5 @@
 -- What a tree says of its channels does not depend on their places, or on what describes the root.
-use Rattle.std.proofs.Common.{◌≡◌, ℕ, zero, suc, ◌+◌, ◌==◌, ◌&&◌, Bool, false, cond, nat_lt, List, [], ◌∷◌, length, map, reverse, Option, Some, None, is_some, refl, ap, ◌∙◌}
-use Rattle.std.specs.List.{list_any}
-use Rattle.std.specs.Option.{option_map, option_map_or}
-use Rattle.mum_base.specs.declared.number.ChannelId.{ChannelId}
-use Rattle.mum_tree.specs.declared.channel.Row.{Row}
-use Rattle.mum_tree.specs.declared.channel.TheConstants.{PATH_LIMIT}
-use Rattle.mum_tree.specs.declared.fault.TreeFault.{TreeFault}
-use Rattle.mum_tree.specs.declared.fault.TreeFault.TheVariants.{Nesting, RootFixed, SameName, TemporaryParent, UnderItself}
-use Rattle.mum_tree.specs.Rows.{has_name_beside, is_below, is_root, is_taken, is_temporary, is_there, nests, path, row_of, upward}
-use Rattle.mum_tree.specs.State.{plain_info}
-use Rattle.mum_tree.proofs.Changed.{row_of-map}
-use Rattle.mum_state.proofs.Each.{any_alike, any_map}
+use Rattle.mum_kept_laws.proofs.Common.{◌≡◌, ℕ, zero, suc, ◌+◌, ◌==◌, ◌&&◌, Bool, false, cond, nat_lt, List, [], ◌∷◌, length, map, reverse, Option, Some, None, is_some, refl, ap, ◌∙◌, list_any, option_map, option_map_or, ChannelId, Row, PATH_LIMIT, TreeFault, Nesting, RootFixed, SameName, TemporaryParent, UnderItself, has_name_beside, is_below, is_root, is_taken, is_temporary, is_there, nests, path, row_of, upward, plain_info, row_of-map, any_alike, any_map}
 
 -- a row without its place, and the root's without what describes it
 abbrev pub unplaced : Row → Row

@@ -3,22 +3,14 @@
 use Rattle.std.specs.Prelude.{◌≡◌, ◌<◌, ◌^◌, List, ◌∷◌, ◌++◌, map, IsTrue}
 use Rattle.std.specs.List.{All}
 use Rattle.mum_base.specs.declared.number.TheConstants.{PLACES, SLOTS}
-use Rattle.mum_fields.specs.Table.{layout, parts}
-use Rattle.mum_fields.specs.Typed.{AreTyped}
+use Rattle.mum_fields.specs.{Table.layout, Table.parts, Typed.AreTyped}
 use Rattle.mum_msg_rule.specs.Messages.{acl}
-use Rattle.mum_state.specs.declared.edit.Edit.{Edit}
-use Rattle.mum_state.specs.declared.edit.Edit.TheVariants.{SetLimits}
-use Rattle.mum_state.specs.After.{after, all_fit}
-use Rattle.mum_state.specs.Proper.{IsProper}
-use Rattle.mum_state.specs.State.{StateValue, empty_state}
+use Rattle.mum_state.specs.declared.edit.Edit.{Edit, TheVariants.SetLimits}
+use Rattle.mum_state.specs.{After.after, After.all_fit, Proper.IsProper, State.StateValue, State.empty_state}
 use Rattle.mum_rules_tree.specs.Policy.{acl_told}
 use Rattle.mum_config.specs.Limits.{FitAfterLimits, settings_and_accounts}
-use Rattle.mum_kept.specs.declared.rows.KeptChannel.{KeptChannel}
-use Rattle.mum_kept.specs.declared.rows.KeptRows.{KeptRows}
-use Rattle.mum_kept.specs.Good.{IsTree}
-use Rattle.mum_kept.specs.Kept.{kept}
-use Rattle.mum_kept.specs.Policy.{policy_in, policy_payload}
-use Rattle.mum_kept.specs.Rebuild.{rebuild}
+use Rattle.mum_kept.specs.declared.rows.{KeptChannel.KeptChannel, KeptRows.KeptRows}
+use Rattle.mum_kept.specs.{Good.IsTree, Kept.kept, Policy.policy_in, Policy.policy_payload, Rebuild.rebuild}
 
 -- as many sessions and channels as there may be
 abbrev pub first_limits : Edit
@@ -32,19 +24,19 @@ opening_edits configuration rows = first_limits ∷ (settings_and_accounts confi
 abbrev pub HaveNumbers : List KeptChannel → Type 0
 HaveNumbers channels = All (λ channel. channel.id.0 < 2 ^ 32) channels
 
--- the policy written anew: a payload may say the same in more than one way
+-- the policy written again: a payload may say the same in more than one way
 abbrev pub respelled : KeptChannel → KeptChannel
 respelled channel = record channel { policy = policy_payload channel.id (policy_in channel.policy) }
 
 abbrev pub respelled_rows : KeptRows → KeptRows
 respelled_rows rows = record { channels = map respelled rows.channels; links = rows.links }
 
--- the messages that tell of the policies can be written: their texts are UTF-8 and their numbers have 32 bits, as in
+-- the messages that report the policies can be written: their texts are UTF-8 and their numbers have 32 bits, as in
 -- each state of the program
 abbrev pub CanBeWritten : StateValue → Type 0
 CanBeWritten state = All (λ row. AreTyped (layout acl) (parts acl (acl_told row.channel row.policy))) state.policies
 
--- Behind the settings and the accounts of a configuration, each edit that makes the channels of good rows is applicable
+-- After the settings and the accounts of a configuration, each edit that makes the channels of good rows is applicable
 -- in its turn.
 abbrev pub RebuildFits : Type 0
 RebuildFits =
@@ -52,7 +44,7 @@ RebuildFits =
     → FitAfterLimits (settings_and_accounts configuration)
     → IsTrue (all_fit empty_state (opening_edits configuration rows))
 
--- What is kept of the state after these edits is the rows, with each policy written anew.
+-- What is kept of the state after these edits is the rows, with each policy written again.
 abbrev pub RebuiltIsKept : Type 0
 RebuiltIsKept =
     (rows : KeptRows) (configuration : List Edit) → IsTree rows → HaveNumbers rows.channels

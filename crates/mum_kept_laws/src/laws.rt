@@ -3,13 +3,13 @@
 ghost use Rattle.mum_kept_laws.specs.RoundTrip.{KeptIsGood, KeptIsKeptAgain, RebuildFits, RebuiltIsKept};
 
 /// Each edit that makes the channels of good rows again is applicable in its turn, from a server with the
-/// root alone, behind the settings and the accounts of a configuration.
+/// root alone, after the settings and the accounts of a configuration.
 pub fn rebuild_fits()
     ensures { RebuildFits }
 {}
 
 /// What is kept of the channels that these edits make is what the rows said: their names, places,
-/// descriptions, links and policies, each policy written anew.
+/// descriptions, links and policies, each policy written again.
 pub fn rebuilt_is_kept()
     ensures { RebuiltIsKept }
 {}

@@ -1,29 +1,7 @@
 -- Notices that are pending are posted and collected, one after the other, and leave a core at rest.
-use Rattle.std.proofs.Common.{◌≡◌, ℕ, ◌<◌, Bool, true, false, cond, List, [], ◌∷◌, ◌++◌, length, drop, Option, Some, None, refl, sym, ap, subst, ◌∙◌, arith, inl, inr}
-use Rattle.std.specs.Prelude.{◌⊎◌, is_none, nat_lt, slice_get, slice_index_or}
-use Rattle.std.specs.List.{AllByRecursion, flat_map}
-use Rattle.std.specs.Option.{option_map}
-use Rattle.std.proofs.lemmas.Bool.{cases_eq, lt-ltb}
-use Rattle.std.proofs.lemmas.Option.{slice_get_within}
-use Rattle.mum_base.specs.declared.number.TheConstants.{POST_CAPACITY}
-use Rattle.mum_notify.specs.declared.notice.Notice.{Notice}
-use Rattle.mum_record.specs.declared.step.Step.{Step}
-use Rattle.mum_record.specs.declared.step.Step.TheVariants.{Collect, Post}
-use Rattle.mum_core.specs.declared.connection.Connection.{Connection}
-use Rattle.mum_core.specs.declared.connection.Seat.{Seat}
-use Rattle.mum_core.specs.Connection.{fresh, lagging}
-use Rattle.mum_core.specs.Core.{CoreState, at_posts, at_session, connection_at, posts_at, up}
-use Rattle.mum_core.specs.Delivery.{does_from, is_for, takes, with_stale}
-use Rattle.mum_core.specs.Laws.{IsRun, ran}
-use Rattle.mum_core.specs.Lists.{changed_at, with_found}
-use Rattle.mum_core.specs.Step.{does, illegal}
-use Rattle.mum_core.specs.steps.Collect.{framed, notice_queues}
-use Rattle.mum_core.specs.steps.Post as post_step
-use Rattle.mum_core.proofs.Changed.{changed_other, changed_same, length-changed}
-use Rattle.mum_core.proofs.Delivered.{delivered}
-use Rattle.mum_core.proofs.Places.{placed}
-use Rattle.mum_exercise.specs.Exercise.{brings}
+use Rattle.mum_laws.proofs.Common.{◌≡◌, ℕ, ◌<◌, Bool, true, false, cond, List, [], ◌∷◌, ◌++◌, length, drop, Option, Some, None, refl, sym, ap, subst, ◌∙◌, arith, inl, inr, ◌⊎◌, is_none, nat_lt, slice_get, slice_index_or, AllByRecursion, flat_map, option_map, cases_eq, lt-ltb, slice_get_within, POST_CAPACITY, Notice, Step, Collect, Post, Connection, Seat, fresh, lagging, CoreState, at_posts, at_session, connection_at, posts_at, up, does_from, is_for, takes, with_stale, IsRun, ran, changed_at, with_found, does, illegal, framed, notice_queues, changed_other, changed_same, length-changed, delivered, placed, brings}
 use Rattle.mum_laws.proofs.Resting.{HasSeat, Rests, may_take, passed, seat_as}
+use Rattle.mum_core.specs.steps.Post as post_step
 
 -- ---- what stays while notices are brought
 
@@ -56,7 +34,7 @@ pub record Pends (notices : List Notice) (core : CoreState) : Type 0 where
 abbrev adding : Notice → List Notice → List Notice
 adding notice posts = posts ++ notice ∷ []
 
--- the core behind a notice that is posted where nothing waits
+-- the core after a notice that is posted where nothing waits
 abbrev posted_core : CoreState → Notice → List Notice → CoreState
 posted_core core notice rest = record (at_posts notice.slot.0 (adding notice) (record core { pending = rest; posted = up core.posted })) { line = up core.line }
 

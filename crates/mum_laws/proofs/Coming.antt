@@ -1,46 +1,7 @@
 -- The users of an exercise come, one after the other, and each of them is accepted.
-use Rattle.std.proofs.Common.{◌≡◌, ℕ, zero, suc, ◌+◌, ◌≤◌, ◌<◌, ◌&&◌, Bool, true, false, cond, List, [], ◌∷◌, length, Option, Some, None, refl, ap, ◌∙◌, arith, inl, inr}
-use Rattle.std.specs.Prelude.{find, insert, nat_lt, not, ◌||◌, if◌then◌else◌}
-use Rattle.std.specs.Fmt.{digits}
-use Rattle.std.specs.List.{list_any}
-use Rattle.std.specs.Option.{option_map, option_map_or}
-use Rattle.std.specs.Str.{IsUtf8, bytes_eq, chars, is_utf8}
-use lib.Utf8.{encode}
-use Rattle.std.proofs.lemmas.Bool.{and_parts, cases_eq, le-ltb, lt-leb, ltb-true}
-use Rattle.std.proofs.lemmas.List.{length-map}
-use Rattle.std.proofs.lemmas.Str.{IsUtf8-from_is_utf8}
-use Rattle.mum_base.specs.Codes.{reason_code, reject_code}
-use Rattle.mum_base.specs.declared.outcome.Reason.{Reason}
-use Rattle.mum_base.specs.declared.outcome.RejectType.{RejectType}
-use Rattle.mum_users.specs.declared.user.User.{User}
-use Rattle.mum_users.specs.declared.user.TheConstants.{DEFAULT_SESSIONS_LIMIT}
-use Rattle.mum_users.specs.Sessions.{free_slot, is_full, is_used_up, next_number, next_slot}
-use Rattle.mum_users.specs.State.{has_name, joining}
-use Rattle.mum_state.specs.declared.account.Account.{Account}
-use Rattle.mum_state.specs.declared.count.TheConstants.{EDIT_LIMIT}
-use Rattle.mum_state.specs.declared.edit.Edit.{Edit}
-use Rattle.mum_state.specs.declared.edit.Edit.TheVariants.{Join}
-use Rattle.mum_state.specs.declared.verdict.Verdict.TheVariants.{Accepted, Ignored, Rejected}
-use Rattle.mum_state.specs.Applied.{applied}
-use Rattle.mum_state.specs.Proper.{is_name}
-use Rattle.mum_state.specs.Set.{set_by}
-use Rattle.mum_state.specs.State.{StateValue, account_named}
-use Rattle.mum_state.specs.Suppression.{heard_anew, is_set_anew}
-use Rattle.mum_state.proofs.Descent.{applied_descends}
-use Rattle.mum_state.proofs.Each.{Each, each_insert, each_so}
-use Rattle.mum_rules_tree.specs.Decision.{Case, first_standing}
-use Rattle.mum_rules_tree.specs.declared.reason.TheConstants.{COMMAND_LIMIT}
-use Rattle.mum_rules_user.specs.declared.message.UserMessage.TheVariants as users
+use Rattle.mum_laws.proofs.Common.{◌≡◌, ℕ, zero, suc, ◌+◌, ◌≤◌, ◌<◌, ◌&&◌, Bool, true, false, cond, List, [], ◌∷◌, length, Option, Some, None, refl, ap, ◌∙◌, arith, inl, inr, find, insert, nat_lt, not, ◌||◌, if◌then◌else◌, digits, list_any, option_map, option_map_or, IsUtf8, bytes_eq, chars, is_utf8, encode, and_parts, cases_eq, le-ltb, lt-leb, ltb-true, length-map, IsUtf8-from_is_utf8, reason_code, reject_code, Reason, RejectType, User, DEFAULT_SESSIONS_LIMIT, free_slot, is_full, is_used_up, next_number, next_slot, has_name, joining, Account, EDIT_LIMIT, Edit, Join, Accepted, Ignored, Rejected, applied, is_name, set_by, StateValue, account_named, heard_anew, is_set_anew, applied_descends, Each, each_insert, each_so, Case, first_standing, COMMAND_LIMIT, edit_to_join, is_no_guest, is_not_the_owner, limits_of_login, reasons, heard_verdict, layout, parts, spelled, authenticate, bound, items-few, verdict, OfUser, login, user_name}
 use Rattle.mum_rules_user.specs.Asked.{payload_of}
-use Rattle.mum_rules_user.specs.Login.{edit_to_join, is_no_guest, is_not_the_owner, limits_of_login}
-use Rattle.mum_rules_user.specs.Reasons.{reasons}
-use Rattle.mum_rules_user.specs.Verdict.{heard_verdict}
-use Rattle.mum_fields.specs.Table.{layout, parts, spelled}
-use Rattle.mum_msg_state.specs.Messages.{authenticate}
-use Rattle.mum_notify.proofs.Bounds.{bound, items-few}
-use Rattle.mum_session.specs.Verdict.{verdict}
-use Rattle.mum_session.specs.declared.command.Asked.TheVariants.{User as OfUser}
-use Rattle.mum_exercise.specs.Acts.{login, user_name}
+use Rattle.mum_rules_user.specs.declared.message.UserMessage.TheVariants as users
 
 -- ---- what holds of each number below another
 
@@ -79,7 +40,7 @@ name_text i low = IsUtf8-from_is_utf8 (user_name (i + 1)) (checked (λ i. is_utf
 pub name_short : (i : ℕ) → i < 16 → length (user_name (i + 1)) ≤ 20
 name_short i low = let few = ltb-true (length (user_name (i + 1))) 20 (checked (λ i. nat_lt (length (user_name (i + 1))) 20) 16 i names_are_short low) in omega (arith, few)
 
--- ---- the state when so many came
+-- ---- the state when n came
 
 abbrev IsNamed : ℕ → User → Type 0
 IsNamed i user = (k : ℕ) × (k < i) × (user.name ≡ user_name (k + 1))
@@ -114,7 +75,7 @@ new_name i state low ready =
 
 -- ---- a login is accepted
 
--- where none of the cases stands, none is found
+-- where none of the cases applies, none is found
 none_stands : {C : Type 0} (cases : List (Case C)) → Each (λ one. one.stands ≡ false) cases → first_standing cases ≡ None
 none_stands [] all = refl
 none_stands {C} (x ∷ cases) all =

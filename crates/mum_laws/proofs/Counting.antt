@@ -1,10 +1,5 @@
--- What steps add to a count that stands still at its last value.
-use Rattle.std.proofs.Common.{◌≡◌, ℕ, ◌+◌, ◌-◌, ◌≤◌, ◌^◌, min, List, [], ◌∷◌, length, refl, arith, length-append}
-use Rattle.mum_record.specs.declared.step.Step.{Step}
-use Rattle.mum_core.specs.Core.{CoreState}
-use Rattle.mum_core.specs.Laws.{gathered, ran}
-use Rattle.mum_core.specs.Step.{does}
-use Rattle.mum_core.specs.declared.machine.Totals.{Totals}
+-- What steps add to a count that stays at its last value.
+use Rattle.mum_laws.proofs.Common.{◌≡◌, ℕ, ◌+◌, ◌-◌, ◌≤◌, ◌^◌, min, List, [], ◌∷◌, length, refl, arith, length-append, Step, CoreState, gathered, ran, does, Totals}
 
 pub counts_none : (old new : ℕ) → new ≡ old → old ≤ 2 ^ 64 - 1 → new ≡ min (old + 0) (2 ^ 64 - 1)
 counts_none old new same low = omega (arith, same, low)

@@ -1,30 +1,8 @@
 -- The accepted edits are those of the verdicts.
-use Rattle.std.proofs.Common.{◌≡◌, ℕ, zero, suc, ◌+◌, ◌≤◌, false, List, [], ◌∷◌, ◌++◌, length, take, Option, Some, None, refl, sym, ap, ◌∙◌, arith, append_assoc}
-use Rattle.std.specs.Prelude.{is_none, not}
-use Rattle.std.specs.Option.{option_map, option_map_or}
-use Rattle.std.proofs.lemmas.List.{append-nil}
-use Rattle.mum_state.specs.After.{led_to}
-use Rattle.mum_state.specs.State.{StateValue}
-use Rattle.mum_state.specs.declared.edit.Edit.{Edit}
-use Rattle.mum_state.specs.declared.verdict.Verdict.{Verdict}
-use Rattle.mum_state.specs.declared.verdict.Verdict.TheVariants.{Accepted, Lacks, Refused, Rejected, Answer, Ignored}
-use Rattle.mum_record.specs.Journal.{verdict_words}
-use Rattle.mum_record.specs.declared.head.Version.{Version}
+use Rattle.mum_laws.proofs.Common.{◌≡◌, ℕ, zero, suc, ◌+◌, ◌≤◌, false, List, [], ◌∷◌, ◌++◌, length, take, Option, Some, None, refl, sym, ap, ◌∙◌, arith, append_assoc, is_none, not, option_map, option_map_or, append-nil, led_to, StateValue, Edit, Verdict, Accepted, Lacks, Refused, Rejected, Answer, Ignored, verdict_words, Version, Step, Open, Frame, Publish, Tell, Look, Offer, Post, Drain, Collect, Close, End, mark, edits_of, verdict, Asked, next_command, session_of, CoreState, connection_at, is_opened, start, gathered, ran, said_of, does, frame_action, frame_version, illegal, lines, accepted_grows, collect_keeps, drain_keeps, frame_keeps, none_stands, notes_keep, opening_stays, posted_keeps, puts_keep, taken_core, told_core, accepted, accepted_by, verdict_on}
 use Rattle.mum_record.specs.declared.step.Step.TheVariants as steps
-use Rattle.mum_record.specs.declared.step.Step.{Step}
-use Rattle.mum_record.specs.declared.step.Step.TheVariants.{Open, Frame, Publish, Tell, Look, Offer, Post, Drain, Collect, Close, End}
-use Rattle.mum_session.specs.Reply.{mark}
-use Rattle.mum_session.specs.Verdict.{edits_of, verdict}
-use Rattle.mum_session.specs.declared.command.Asked.{Asked}
-use Rattle.mum_core.specs.Connection.{next_command, session_of}
-use Rattle.mum_core.specs.Core.{CoreState, connection_at, is_opened, start}
-use Rattle.mum_core.specs.Laws.{gathered, ran}
-use Rattle.mum_core.specs.Line.{said_of}
-use Rattle.mum_core.specs.Step.{does, frame_action, frame_version, illegal, lines}
 use Rattle.mum_core.specs.steps.Edit as edit_step
 use Rattle.mum_core.specs.steps.Offer as offer_step
-use Rattle.mum_core.proofs.RunLaws.{accepted_grows, collect_keeps, drain_keeps, frame_keeps, none_stands, notes_keep, opening_stays, posted_keeps, puts_keep, taken_core, told_core}
-use Rattle.mum_laws.specs.Edits.{accepted, accepted_by, verdict_on}
 
 -- ---- the list
 

@@ -1,34 +1,10 @@
--- A drain tells the front of its slot, or drops it; and what is dropped is counted.
-use Rattle.std.proofs.Common.{◌≡◌, ℕ, zero, suc, ◌+◌, ◌-◌, ◌≤◌, ◌<◌, ◌^◌, min, Bool, true, false, cond, List, [], ◌∷◌, length, map, take, drop, Option, Some, None, refl, sym, ap, subst, ◌∙◌, arith}
-use Rattle.std.specs.Prelude.{◌==◌, codes, decimal, filter, is_none, is_some, not, slice_get, slice_index_or}
-use Rattle.std.specs.Option.{option_map}
-use Rattle.std.proofs.lemmas.Bool.{eq-eqb, ne_eqb}
-use Rattle.std.proofs.lemmas.Option.{slice_get_within}
-use Rattle.mum_base.specs.declared.number.SessionId.{SessionId}
-use Rattle.mum_notify.specs.declared.notice.Notice.{Notice}
-use Rattle.mum_state.specs.State.{StateValue}
-use Rattle.mum_record.specs.declared.head.Version.{Version}
+-- A drain sends the front of its slot, or drops it; and what is dropped is counted.
+use Rattle.mum_laws.proofs.Common.{◌≡◌, ℕ, zero, suc, ◌+◌, ◌-◌, ◌≤◌, ◌<◌, ◌^◌, min, Bool, true, false, cond, List, [], ◌∷◌, length, map, take, drop, Option, Some, None, refl, sym, ap, subst, ◌∙◌, arith, ◌==◌, codes, decimal, filter, is_none, is_some, not, slice_get, slice_index_or, option_map, eq-eqb, ne_eqb, slice_get_within, SessionId, Notice, StateValue, Version, Step, Open, Frame, Publish, Tell, Look, Offer, Post, Drain, Collect, Close, End, Seat, Totals, Parcel, Outgoing, CoreState, at_posts, connection_at, is_opened, outbox_at, posts_at, start, up, does_from, is_for, takes, with_stale, gathered, ran, wire_words, does, frame_action, frame_version, illegal, lines, carried, copy_queues, framed, notice_queues, changed_other, changed_same, decided_still, frame_still, notes_still, posted_still, rest_core, none_stands, taken_core, told_core, Drains, Drops, IsWithout, Tells, copies_for, dropped, notices_for, strangers}
+use Rattle.mum_laws.proofs.Counting.{CountsEach, counts_all, counts_first, counts_none}
 use Rattle.mum_record.specs.declared.step.Step.TheVariants as steps
-use Rattle.mum_record.specs.declared.step.Step.{Step}
-use Rattle.mum_record.specs.declared.step.Step.TheVariants.{Open, Frame, Publish, Tell, Look, Offer, Post, Drain, Collect, Close, End}
-use Rattle.mum_core.specs.declared.connection.Seat.{Seat}
-use Rattle.mum_core.specs.declared.machine.Totals.{Totals}
-use Rattle.mum_core.specs.declared.outbox.Parcel.{Parcel}
-use Rattle.mum_core.specs.declared.worker.Outgoing.{Outgoing}
-use Rattle.mum_core.specs.Core.{CoreState, at_posts, connection_at, is_opened, outbox_at, posts_at, start, up}
 use Rattle.mum_core.specs.Delivery as delivery
-use Rattle.mum_core.specs.Delivery.{does_from, is_for, takes, with_stale}
-use Rattle.mum_core.specs.Laws.{gathered, ran}
-use Rattle.mum_core.specs.Line.{wire_words}
-use Rattle.mum_core.specs.Step.{does, frame_action, frame_version, illegal, lines}
-use Rattle.mum_core.specs.steps.{Drain.carried, Drain.copy_queues, Collect.framed, Collect.notice_queues}
 use Rattle.mum_core.specs.steps.Edit as edit_step
 use Rattle.mum_core.specs.steps.Offer as offer_step
-use Rattle.mum_core.proofs.Changed.{changed_other, changed_same}
-use Rattle.mum_core.proofs.Copies.{decided_still, frame_still, notes_still, posted_still, rest_core}
-use Rattle.mum_core.proofs.RunLaws.{none_stands, taken_core, told_core}
-use Rattle.mum_laws.specs.Drains.{Drains, Drops, IsWithout, Tells, copies_for, dropped, notices_for, strangers}
-use Rattle.mum_laws.proofs.Counting.{CountsEach, counts_all, counts_first, counts_none}
 
 -- ---- one drain
 
@@ -51,7 +27,7 @@ without core new seat front rest is same =
           ∙ changed_other core.outboxes seat.slot.0 slot (λ parcels. drop 1 parcels) [] other;
     }
 
--- the core behind a drain that chose so
+-- the core after a drain that chose so
 abbrev drained : CoreState → Seat → Bool → CoreState
 drained core seat own = record (cond own (rest_core core seat) (with_stale (rest_core core seat))) { line = up core.line }
 
@@ -81,7 +57,7 @@ seat_there : (o : Option Seat) → is_none o ≡ false → (seat : Seat) × (o �
 seat_there None h = cc
 seat_there (Some seat) h = (seat, refl)
 
--- the core behind a drain of this seat, and its lines
+-- the core after a drain of this seat, and its lines
 abbrev drain_by : CoreState → Option Seat → CoreState
 drain_by core seat = record (does_from copy_queues core seat) { line = up core.line }
 

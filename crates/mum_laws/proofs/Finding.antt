@@ -1,31 +1,11 @@
 -- What a worker offers is what its looks found.
-use Rattle.std.proofs.Common.{◌≡◌, ℕ, zero, suc, ◌<◌, max, Bool, true, false, cond, List, [], ◌∷◌, ◌++◌, length, take, drop, Option, Some, None, refl, sym, ap, ◌∙◌, append_assoc}
-use Rattle.std.specs.Prelude.{◌==◌, is_none, nat_lt, not, replicate, slice_index_or}
-use Rattle.std.proofs.lemmas.Bool.{eqb-false, eqb-true, ltb-true}
-use Rattle.std.proofs.lemmas.List.{append-nil}
-use Rattle.mum_voice.specs.Packet.{packet}
-use Rattle.mum_state.specs.State.{StateValue}
-use Rattle.mum_session.specs.declared.action.Action.{Action}
-use Rattle.mum_session.specs.declared.action.Action.TheVariants.{Voice}
-use Rattle.mum_record.specs.declared.head.Version.{Version}
+use Rattle.mum_laws.proofs.Common.{◌≡◌, ℕ, zero, suc, ◌<◌, max, Bool, true, false, cond, List, [], ◌∷◌, ◌++◌, length, take, drop, Option, Some, None, refl, sym, ap, ◌∙◌, append_assoc, ◌==◌, is_none, nat_lt, not, replicate, slice_index_or, eqb-false, eqb-true, ltb-true, append-nil, packet, StateValue, Action, Voice, Version, Step, Open, Frame, Publish, Tell, Look, Offer, Post, Drain, Collect, Close, End, Outgoing, CoreState, connection_at, start, state_at, worker_at, IsRun, gathered, ran, does, frame_action, frame_version, illegal, HeldPacket, WorkerState, idle, spoken, changed-by, changed_other, changed_same, AreClean, clean_start, clean_step, held_there, collect_workers, decided_workers, drain_workers, none_stands, not_false, posted_workers, puts_workers, taken_core, told_core, found, offered}
 use Rattle.mum_record.specs.declared.step.Step.TheVariants as steps
-use Rattle.mum_record.specs.declared.step.Step.{Step}
-use Rattle.mum_record.specs.declared.step.Step.TheVariants.{Open, Frame, Publish, Tell, Look, Offer, Post, Drain, Collect, Close, End}
-use Rattle.mum_core.specs.declared.worker.Outgoing.{Outgoing}
-use Rattle.mum_core.specs.Core.{CoreState, connection_at, start, state_at, worker_at}
-use Rattle.mum_core.specs.Laws.{IsRun, gathered, ran}
-use Rattle.mum_core.specs.Step.{does, frame_action, frame_version, illegal}
-use Rattle.mum_core.specs.Worker.{HeldPacket, WorkerState, idle}
 use Rattle.mum_core.specs.steps.Edit as edit_step
 use Rattle.mum_core.specs.steps.Frame as frame_step
-use Rattle.mum_core.specs.steps.Frame.{spoken}
 use Rattle.mum_core.specs.steps.Look as look_step
 use Rattle.mum_core.specs.steps.Offer as offer_step
 use Rattle.mum_core.specs.steps.Tell as tell_step
-use Rattle.mum_core.proofs.Changed.{changed-by, changed_other, changed_same}
-use Rattle.mum_core.proofs.Counts.{AreClean, clean_start, clean_step, held_there}
-use Rattle.mum_core.proofs.RunLaws.{collect_workers, decided_workers, drain_workers, none_stands, not_false, posted_workers, puts_workers, taken_core, told_core}
-use Rattle.mum_laws.specs.Copies.{found, offered}
 
 -- ---- the copies that a worker has, by step
 

@@ -1,26 +1,7 @@
--- The head of a recording, and the run behind it.
-use Rattle.std.proofs.Common.{◌≡◌, ℕ, ◌+◌, ◌-◌, ◌≤◌, ◌⊎◌, Bool, true, false, cond, List, [], ◌∷◌, ◌++◌, length, Option, Some, None, refl, sym, ap, subst, ◌∙◌, arith, inl, inr, append_assoc, length-append}
-use Rattle.std.specs.Prelude.{IfSome}
-use Rattle.std.specs.List.{AllByRecursion, slice_split}
-use Rattle.std.proofs.lemmas.List.Concat.{flat_map-append}
-use Rattle.hex.specs.Hex.{IsBytes}
-use Rattle.mum_document.specs.Fault.{Fault}
-use Rattle.mum_record.specs.Head.{AreLimits, IsConfigLine, config_line, config_of, first_step_line, head_lines, limits_line, limits_of, recording_line, recording_version, version_with, workers_line, workers_of}
-use Rattle.mum_record.specs.Journal.{ended_lines}
-use Rattle.mum_record.specs.Lines.{is_line_feed}
-use Rattle.mum_record.specs.declared.head.Version.{Version}
-use Rattle.mum_record.specs.declared.head.Version.TheVariants.{One, Two}
-use Rattle.mum_record.proofs.ConfigLaws.{config_of-found, config_of-line}
-use Rattle.mum_record.proofs.HeadLemmas.{limits_of-found, limits_of-line, workers_of-found, workers_of-line}
-use Rattle.mum_record.proofs.Laws.{chosen}
-use Rattle.mum_core.specs.Core.{CoreState, start}
-use Rattle.mum_opening.specs.Opening.{document_fault, opening}
-use Rattle.mum_server.specs.Replay.{Answer, Goes, Outcome, Stops as StopsAt, answer, config_answer, goes_on, is_too_long, limits_answer, opening_answer, outcome_from, phase_behind_workers, replayed, version_answer, workers_answer}
-use Rattle.mum_server.specs.declared.{end.End.TheVariants.Faulty, replay.Phase.Phase}
-use Rattle.mum_server.specs.declared.end.LineFault.TheVariants.{TooLong, BadRecording}
-use Rattle.mum_server.specs.declared.replay.Phase.TheVariants.{Head, Workers, Limits, Config, LimitedConfig, Running}
-use Rattle.mum_server.proofs.TooLong.{outcome_cons, short_enough, split_filled}
-use Rattle.mum_laws.specs.Recordings.{IsHead, IsRunBehind, IsRunFrom, IsTranscript, StopsEarly}
+-- The head of a recording, and the run after it.
+use Rattle.mum_laws.proofs.Common.{◌≡◌, ℕ, ◌+◌, ◌-◌, ◌≤◌, ◌⊎◌, Bool, true, false, cond, List, [], ◌∷◌, ◌++◌, length, Option, Some, None, refl, sym, ap, subst, ◌∙◌, arith, inl, inr, append_assoc, length-append, IfSome, AllByRecursion, slice_split, flat_map-append, IsBytes, Fault, AreLimits, IsConfigLine, config_line, first_step_line, head_lines, limits_line, limits_of, recording_line, recording_version, version_with, workers_line, workers_of, ended_lines, is_line_feed, Version, One, Two, config_of-found, config_of-line, limits_of-found, limits_of-line, workers_of-found, workers_of-line, chosen, CoreState, start, document_fault, opening, Goes, Outcome, StopsAt, answer, config_answer, goes_on, is_too_long, limits_answer, opening_answer, outcome_from, phase_behind_workers, replayed, version_answer, workers_answer, Faulty, Phase, TooLong, BadRecording, Head, Workers, Limits, Config, LimitedConfig, Running, outcome_cons, short_enough, split_filled, IsHead, IsRunBehind, IsRunFrom, IsTranscript, StopsEarly}
+use Rattle.mum_record.specs.Head.{config_of}
+use Rattle.mum_server.specs.Replay.{Answer}
 use Rattle.mum_laws.proofs.Transcribing.{longer, not_nil, runs, short_from}
 
 version_found : (line : List ℕ) (v : Version) → recording_version line ≡ Some v → line ≡ recording_line v
@@ -41,7 +22,7 @@ grows heads line =
 
 -- ---- the lines of a head, one after another
 
--- an input of these lines and these pieces behind them, where so many bytes may still come
+-- an input of these lines and these pieces after them, where n bytes may still come
 record Begun (bytes : List ℕ) (heads parts : List (List ℕ)) (left : ℕ) : Type 0 where
   split : slice_split is_line_feed bytes ≡ heads ++ parts
   sum : length (ended_lines heads) + left ≡ 67108864

@@ -1,3 +1,4 @@
+mod Common
 mod Bringing
 mod Coming
 mod Counting

@@ -1,38 +1,9 @@
 -- A copy that is offered is at the back of its outbox, or found it full; and both are counted.
-use Rattle.std.proofs.Common.{◌≡◌, ℕ, ◌+◌, ◌-◌, ◌≤◌, ◌<◌, ◌^◌, min, Bool, true, false, cond, List, [], ◌∷◌, ◌++◌, length, take, drop, Option, Some, None, refl, sym, ap, subst, ◌∙◌, arith, inl, inr, length-append}
-use Rattle.std.specs.Prelude.{◌⊎◌, codes, filter, not, slice_get, slice_index_or}
-use Rattle.std.specs.List.{AllByRecursion}
-use Rattle.std.proofs.lemmas.Bool.{ltb-false, ltb-true}
-use Rattle.std.proofs.lemmas.List.{length-replicate}
-use Rattle.std.proofs.lemmas.Option.{get_or_from_slice_get}
-use Rattle.mum_base.specs.declared.number.TheConstants.{SLOTS}
-use Rattle.mum_state.specs.Proper.{IsProper}
-use Rattle.mum_state.specs.State.{StateValue}
-use Rattle.mum_record.specs.declared.head.Version.{Version}
+use Rattle.mum_laws.proofs.Common.{◌≡◌, ℕ, ◌+◌, ◌-◌, ◌≤◌, ◌<◌, ◌^◌, min, Bool, true, false, cond, List, [], ◌∷◌, ◌++◌, length, take, drop, Option, Some, None, refl, sym, ap, subst, ◌∙◌, arith, inl, inr, length-append, ◌⊎◌, codes, filter, not, slice_get, slice_index_or, AllByRecursion, ltb-false, ltb-true, length-replicate, get_or_from_slice_get, SLOTS, IsProper, StateValue, Version, Step, Open, Frame, Publish, Tell, Look, Offer, Post, Drain, Collect, Close, End, Seat, Totals, Parcel, Outgoing, CoreState, at_outbox, connection_at, outbox_at, start, state_at, up, worker_at, does_from, IsRun, gathered, ran, changed_at, does, frame_action, frame_version, illegal, lines, WorkerState, idle, copy_queues, notice_queues, changed-by, changed_other, changed_same, AllCopies, AllLooked, boxes_step, collect_boxes, copies_step, decided_still, each_looked, empty_box, frame_still, idle_copies, looks_before, notes_still, posted_still, delivered, lawful_all, lawful_start, state_proper, slot_below, offers_take_the_first, puts_workers, taken_core, told_core, IsLeftOut, IsSent, Offers, found_full, has_room, offer_line, sent}
+use Rattle.mum_laws.proofs.Counting.{CountsEach, counts_all, counts_first, counts_none}
 use Rattle.mum_record.specs.declared.step.Step.TheVariants as steps
-use Rattle.mum_record.specs.declared.step.Step.{Step}
-use Rattle.mum_record.specs.declared.step.Step.TheVariants.{Open, Frame, Publish, Tell, Look, Offer, Post, Drain, Collect, Close, End}
-use Rattle.mum_core.specs.declared.connection.Seat.{Seat}
-use Rattle.mum_core.specs.declared.machine.Totals.{Totals}
-use Rattle.mum_core.specs.declared.outbox.Parcel.{Parcel}
-use Rattle.mum_core.specs.declared.worker.Outgoing.{Outgoing}
-use Rattle.mum_core.specs.Core.{CoreState, at_outbox, connection_at, outbox_at, start, state_at, up, worker_at}
-use Rattle.mum_core.specs.Delivery.{does_from}
-use Rattle.mum_core.specs.Laws.{IsRun, gathered, ran}
-use Rattle.mum_core.specs.Lists.{changed_at}
-use Rattle.mum_core.specs.Step.{does, frame_action, frame_version, illegal, lines}
-use Rattle.mum_core.specs.Worker.{WorkerState, idle}
-use Rattle.mum_core.specs.steps.{Drain.copy_queues, Collect.notice_queues}
 use Rattle.mum_core.specs.steps.Edit as edit_step
 use Rattle.mum_core.specs.steps.Offer as offer_step
-use Rattle.mum_core.proofs.Changed.{changed-by, changed_other, changed_same}
-use Rattle.mum_core.proofs.Copies.{AllCopies, AllLooked, boxes_step, collect_boxes, copies_step, decided_still, each_looked, empty_box, frame_still, idle_copies, looks_before, notes_still, posted_still}
-use Rattle.mum_core.proofs.Delivered.{delivered}
-use Rattle.mum_core.proofs.Fitted.{lawful_all, lawful_start, state_proper}
-use Rattle.mum_core.proofs.Present.{slot_below}
-use Rattle.mum_core.proofs.RunLaws.{offers_take_the_first, puts_workers, taken_core, told_core}
-use Rattle.mum_laws.specs.Offers.{IsLeftOut, IsSent, Offers, found_full, has_room, offer_line, sent}
-use Rattle.mum_laws.proofs.Counting.{CountsEach, counts_all, counts_first, counts_none}
 
 -- ---- no outbox has more than it can hold
 
@@ -132,7 +103,7 @@ an_outbox_each version opening workers run =
 abbrev Put : CoreState → ℕ → Outgoing → CoreState → Type 0
 Put old w copy new = IsSent old w copy new ⊎ IsLeftOut old w copy new
 
--- the core behind the offer of this copy
+-- the core after the offer of this copy
 abbrev offering : CoreState → ℕ → Option Outgoing → CoreState
 offering core w next = record (offer_step.puts (taken_core core w) next) { line = up core.line }
 

@@ -1,52 +1,10 @@
--- A connection that was told its session was never told that its login is rejected.
-use Rattle.std.proofs.Common.{◌≡◌, ℕ, ◌+◌, ◌-◌, Bool, true, false, cond, List, [], ◌∷◌, Option, Some, None, refl, sym, ap, subst, ◌∙◌}
-use Rattle.std.specs.Prelude.{◌||◌, IfSome, is_some, not}
-use Rattle.std.specs.Option.{option_map, option_map_or, option_or}
-use Rattle.mum_base.specs.declared.number.SessionId.{SessionId}
-use Rattle.mum_frame.specs.Frame.{kind_of, payload_of}
-use Rattle.mum_policy.specs.Member.{Actor}
-use Rattle.mum_state.specs.Permissions.{granted_where_there}
-use Rattle.mum_state.specs.State.{StateValue}
-use Rattle.mum_state.specs.declared.verdict.Verdict.{Verdict}
-use Rattle.mum_state.specs.declared.verdict.Verdict.TheVariants.{Accepted, Lacks, Refused, Rejected, Answer, Ignored}
-use Rattle.mum_rules_tree.specs.Decision.{first_lack, first_standing}
-use Rattle.mum_rules_tree.specs.Verdict.{tree_verdict}
-use Rattle.mum_rules_tree.specs.declared.message.TreeMessage.{TreeMessage}
-use Rattle.mum_rules_user.specs.Asked.{Command as UserCommand, command_of}
-use Rattle.mum_rules_user.specs.Limits.{limits}
-use Rattle.mum_rules_user.specs.Needs.{needs}
-use Rattle.mum_rules_user.specs.Outcome.{answer_frame, outcome}
-use Rattle.mum_rules_user.specs.Reasons.{reasons}
-use Rattle.mum_rules_user.specs.Verdict.{actor_for, command_verdict, user_verdict}
-use Rattle.mum_rules_user.specs.declared.message.UserMessage.{UserMessage}
-use Rattle.mum_session.proofs.Channels.{tree_holds, unless}
-use Rattle.mum_session.specs.Action.{action}
-use Rattle.mum_session.specs.Machine.{is_rejected as stage_rejected}
-use Rattle.mum_session.specs.declared.session.Stage.TheVariants as stages
-use Rattle.mum_session.specs.Reply.{mark}
-use Rattle.mum_session.specs.Verdict.{verdict}
-use Rattle.mum_session.specs.declared.action.Action.{Action}
-use Rattle.mum_session.specs.declared.action.Action.TheVariants.{Ask, Keep}
-use Rattle.mum_session.specs.declared.command.Asked.{Asked}
-use Rattle.mum_session.specs.declared.command.Asked.TheVariants as commands
-use Rattle.mum_record.specs.declared.head.Version.{Version}
-use Rattle.mum_record.specs.declared.step.Step.{Step}
-use Rattle.mum_record.specs.declared.step.Step.TheVariants as steps
-use Rattle.mum_record.specs.declared.step.Step.TheVariants.{Frame, Tell, Close}
-use Rattle.mum_core.specs.declared.connection.Connection.{Connection}
-use Rattle.mum_core.specs.declared.connection.Reply.{Reply}
-use Rattle.mum_core.specs.declared.connection.Seat.{Seat}
-use Rattle.mum_core.specs.Connection.{answered, fresh, is_rejected, is_untold, leads, next_command, next_of_frame, rejects, seat_given, session_of}
-use Rattle.mum_core.specs.Core.{CoreState, connection_at, current, is_opened, start}
-use Rattle.mum_core.specs.Laws.{IsRun, ran}
-use Rattle.mum_core.specs.Machine.{machine_of}
-use Rattle.mum_core.specs.Reply.{seat_of}
-use Rattle.mum_core.specs.Step.{does, frame_action, frame_version, illegal}
-use Rattle.mum_core.specs.steps.Edit as edit_step
-use Rattle.mum_core.proofs.Places.{at_place, change_by, change_of, change_to, conn, each_step, placed}
-use Rattle.mum_core.proofs.RunLaws.{none_stands}
-use Rattle.mum_core.proofs.Settled.{seat_placed}
+-- A connection that was sent its session was never notified that its login is rejected.
+use Rattle.mum_laws.proofs.Common.{◌≡◌, ℕ, ◌+◌, ◌-◌, Bool, true, false, cond, List, [], ◌∷◌, Option, Some, None, refl, sym, ap, subst, ◌∙◌, ◌||◌, IfSome, is_some, not, option_map, option_map_or, option_or, SessionId, kind_of, payload_of, Actor, granted_where_there, StateValue, Verdict, Accepted, Lacks, Refused, Rejected, Answer, Ignored, first_lack, first_standing, tree_verdict, TreeMessage, UserCommand, command_of, limits, needs, answer_frame, outcome, reasons, actor_for, command_verdict, user_verdict, UserMessage, tree_holds, unless, action, stage_rejected, mark, verdict, Action, Ask, Keep, Asked, Version, Step, Frame, Tell, Close, Connection, Reply, Seat, answered, fresh, is_rejected, is_untold, leads, next_command, next_of_frame, rejects, seat_given, session_of, CoreState, connection_at, current, is_opened, start, IsRun, ran, machine_of, seat_of, does, frame_action, frame_version, illegal, at_place, change_by, change_of, change_to, conn, each_step, placed, none_stands, seat_placed}
 use Rattle.mum_laws.proofs.Voicing.{chosen}
+use Rattle.mum_session.specs.declared.session.Stage.TheVariants as stages
+use Rattle.mum_session.specs.declared.command.Asked.TheVariants as commands
+use Rattle.mum_record.specs.declared.step.Step.TheVariants as steps
+use Rattle.mum_core.specs.steps.Edit as edit_step
 
 -- ---- no command of who has a session is rejected
 
@@ -110,7 +68,7 @@ rejected_asker r state (Some session) command h = absurd (true_false _ h (unreje
 
 -- ---- a connection
 
--- one that was told a rejection has nothing, and is to have nothing; and so one that is to be told of it
+-- one that was sent a rejection has nothing, and is to have nothing; and so one that is to be notified of it
 abbrev SaneOf : Bool → Option Asked → Option Reply → Option Seat → Type 0
 SaneOf rejected waiting decided seat =
     (rejected ≡ true → (waiting ≡ None) × (decided ≡ None) × (seat ≡ None))
@@ -125,7 +83,7 @@ StaysSane old new = Sane old → Sane new
 fresh_sane : (w : ℕ) → Sane (fresh w)
 fresh_sane w = (λ h. cc, λ h. cc)
 
--- ---- a reply is told
+-- ---- a reply is sent
 
 told_by : (rejected : Bool) (waiting : Option Asked) (decided : Option Reply) (seat : Option Seat) → SaneOf rejected waiting decided seat
     → SaneOf (rejected || rejects decided) waiting None (option_or (seat_given decided) seat)
@@ -144,7 +102,7 @@ no_command None None h = refl
 asked_by : (rejected : Bool) (waiting : Option Asked) (decided : Option Reply) (seat : Option Seat) (what : Asked) → rejected ≡ false → decided ≡ None → SaneOf rejected (Some what) decided seat
 asked_by rejected waiting decided seat what off none = (λ h. absurd (true_false rejected h off), λ h. absurd (true_false (rejects decided) h (ap rejects none)))
 
--- what is asked for by a frame is of a connection that was told no rejection
+-- what is asked for by a frame is of a connection that was sent no rejection
 abbrev Asks : Action → Bool
 Asks (Ask command) = true
 Asks others = false

@@ -1,56 +1,11 @@
--- A command of a core at rest is taken, decided, published and told, what it brings is collected, and the core is at rest again.
-use Rattle.std.proofs.Common.{◌≡◌, ℕ, zero, suc, ◌+◌, ◌≤◌, ◌<◌, ◌%◌, max, Bool, true, false, cond, List, [], ◌∷◌, ◌++◌, length, Option, Some, None, refl, sym, ap, subst, ◌∙◌, arith, length-append, inl, inr}
-use Rattle.std.specs.Prelude.{is_none, is_some, nat_lt, not, slice_index_or}
-use Rattle.std.specs.List.{AllByRecursion, Contains, flat_map}
-use Rattle.std.specs.Option.{option_map, option_map_or, option_or}
-use Rattle.std.proofs.lemmas.Bool.{cases_eq, le-ltb}
-use Rattle.std.proofs.lemmas.List.Elements.{recursion_from_All}
-use Rattle.std.proofs.lemmas.List.Sums.{fold-append}
-use Rattle.mum_base.specs.declared.number.SessionId.{SessionId}
-use Rattle.mum_base.specs.declared.number.Slot.{Slot}
-use Rattle.mum_base.specs.declared.reply.Mark.{Mark}
+-- A command of a core at rest is taken, decided, published and answered, what it brings is collected, and all is at rest again.
+use Rattle.mum_laws.proofs.Common.{◌≡◌, ℕ, zero, suc, ◌+◌, ◌≤◌, ◌<◌, ◌%◌, max, Bool, true, false, cond, List, [], ◌∷◌, ◌++◌, length, Option, Some, None, refl, sym, ap, subst, ◌∙◌, arith, length-append, inl, inr, is_none, is_some, nat_lt, not, slice_index_or, AllByRecursion, Contains, flat_map, option_map, option_map_or, option_or, cases_eq, le-ltb, recursion_from_All, fold-append, SessionId, Slot, Mark, User, Edit, Verdict, Accepted, led_to, applied, StateValue, Each, Notice, IsAddressee, IsFor, notices, each_has_its_session_lem, Action, Ask, Asked, Command, mark, edits_of, verdict, Step, Frame, Publish, Tell, Connection, StaysHere, Reply, Seat, first_that_stands, answered, asking, fresh, is_accepted, is_rejected, is_untold, next_command, next_of_frame, revision_of, session_of, told, CoreState, at_connection, at_worker, connection_at, current, is_opened, up, worker_at, IsRun, ran, seat_of, does, frame_action, frame_version, illegal, WorkerState, idle, in_hand, changed-by, length-changed, conn, brings, decided, note, WORKERS}
+use Rattle.mum_laws.proofs.{Resting.AreSeated, Resting.HasSeat, Resting.IsFree, Resting.OnlyAt, Resting.Rest, Resting.Rests, Resting.at_rest, Resting.here, Resting.is_there, Resting.no_hands, Resting.only_at, Resting.passed, Resting.seats_of, Bringing.AllBrought, Bringing.AreEmpty, Bringing.Pends, Bringing.Takes, Bringing.all_brought}
 use Rattle.mum_base.specs.declared.reply.Mark.TheVariants as marks
-use Rattle.mum_users.specs.declared.user.User.{User}
-use Rattle.mum_state.specs.declared.edit.Edit.{Edit}
-use Rattle.mum_state.specs.declared.verdict.Verdict.{Verdict}
-use Rattle.mum_state.specs.declared.verdict.Verdict.TheVariants.{Accepted}
-use Rattle.mum_state.specs.After.{led_to}
-use Rattle.mum_state.specs.Applied.{applied}
-use Rattle.mum_state.specs.State.{StateValue}
-use Rattle.mum_state.proofs.Each.{Each}
-use Rattle.mum_notify.specs.declared.notice.Notice.{Notice}
-use Rattle.mum_notify.specs.Laws.{IsAddressee, IsFor}
-use Rattle.mum_notify.specs.Notices.{notices}
-use Rattle.mum_notify.proofs.Told.{each_has_its_session_lem}
-use Rattle.mum_session.specs.declared.action.Action.{Action}
-use Rattle.mum_session.specs.declared.action.Action.TheVariants.{Ask}
-use Rattle.mum_session.specs.declared.command.Asked.{Asked}
-use Rattle.mum_session.specs.declared.command.Command.{Command}
-use Rattle.mum_session.specs.Reply.{mark}
-use Rattle.mum_session.specs.Verdict.{edits_of, verdict}
-use Rattle.mum_record.specs.declared.step.Step.{Step}
 use Rattle.mum_record.specs.declared.step.Step.TheVariants as steps
-use Rattle.mum_record.specs.declared.step.Step.TheVariants.{Frame, Publish, Tell}
-use Rattle.mum_core.specs.declared.connection.Connection.{Connection}
-use Rattle.mum_core.specs.declared.connection.Leave.TheVariants.{Stays as StaysHere}
-use Rattle.mum_core.specs.declared.connection.Reply.{Reply}
-use Rattle.mum_core.specs.declared.connection.Seat.{Seat}
-use Rattle.mum_core.specs.Case.{first_that_stands}
-use Rattle.mum_core.specs.Connection.{answered, asking, fresh, is_accepted, is_rejected, is_untold, next_command, next_of_frame, revision_of, session_of, told}
-use Rattle.mum_core.specs.Core.{CoreState, at_connection, at_worker, connection_at, current, is_opened, up, worker_at}
-use Rattle.mum_core.specs.Laws.{IsRun, ran}
-use Rattle.mum_core.specs.Reply.{seat_of}
-use Rattle.mum_core.specs.Step.{does, frame_action, frame_version, illegal}
-use Rattle.mum_core.specs.Worker.{WorkerState, idle, in_hand}
 use Rattle.mum_core.specs.steps.Edit as edit_step
 use Rattle.mum_core.specs.steps.Frame as frame_step
 use Rattle.mum_core.specs.steps.Tell as tell_step
-use Rattle.mum_core.proofs.Changed.{changed-by, length-changed}
-use Rattle.mum_core.proofs.Places.{conn}
-use Rattle.mum_exercise.specs.Exercise.{brings, decided, note}
-use Rattle.mum_exercise.specs.declared.exercise.TheConstants.{WORKERS}
-use Rattle.mum_laws.proofs.Resting.{AreSeated, HasSeat, IsFree, OnlyAt, Rest, Rests, at_rest, here, is_there, no_hands, only_at, passed, seats_of}
-use Rattle.mum_laws.proofs.Bringing.{AllBrought, AreEmpty, Pends, Takes, all_brought}
 
 -- ---- a frame may be taken
 
@@ -116,7 +71,7 @@ has_reply x reply = record {
 abbrev reply_at : CoreState → ℕ → Asked → Verdict → Reply
 reply_at core i what v = edit_step.reply_to (asked_core core i what) (i + 1) v
 
--- ---- what a tell leaves
+-- ---- what a `Tell` leaves
 
 -- a note is no greater than what is published
 abbrev IsLow : ℕ → Option ℕ → Type 0
@@ -214,7 +169,7 @@ pub record Answers (n i : ℕ) (core : CoreState) (v : Verdict) (three : CoreSta
   pub other : (j : ℕ) → (j ≡ i → ⊥) → seats_of (ran (does three (Tell (i + 1) (note three (decided three (i + 1))))) (flat_map brings (does three (Tell (i + 1) (note three (decided three (i + 1))))).pending)) j ≡ seats_of core j
   pub state : current (ran (does three (Tell (i + 1) (note three (decided three (i + 1))))) (flat_map brings (does three (Tell (i + 1) (note three (decided three (i + 1))))).pending)) ≡ state_after (current core) v
 
--- the seats behind a verdict, by their places
+-- the seats after a verdict, by their places
 pub record SeatedAfter (i : ℕ) (core : CoreState) (v : Verdict) (seats : ℕ → Option Seat) : Type 0 where
   pub own : seats i ≡ option_or (seat_of v) (seats_of core i)
   pub other : (j : ℕ) → (j ≡ i → ⊥) → seats j ≡ seats_of core j
@@ -277,7 +232,7 @@ module _ (n : ℕ) (core : CoreState) (i : ℕ) (what : Asked) (v : Verdict) (re
   there_three : i < length three.connections
   there_three = let many = only_answered.many in let low = there_one in omega (arith, many, low)
 
-  -- ---- the tell
+  -- ---- the `Tell`
 
   abbrev revision : Option ℕ
   revision = note three (decided three (i + 1))

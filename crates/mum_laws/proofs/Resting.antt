@@ -1,27 +1,9 @@
 -- A core at rest: nothing is underway, and each session is of the connection of its number.
-use Rattle.std.proofs.Common.{◌≡◌, ℕ, ◌+◌, ◌-◌, ◌≤◌, ◌<◌, ◌%◌, Bool, true, false, cond, List, [], length, Option, Some, None, refl, sym, ap, subst, ◌∙◌, arith}
-use Rattle.std.specs.Prelude.{is_none, is_some, nat_lt, not, slice_index_or}
-use Rattle.std.proofs.lemmas.Bool.{lt-ltb}
-use Rattle.mum_base.specs.declared.number.SessionId.{SessionId}
-use Rattle.mum_base.specs.declared.number.Slot.{Slot}
-use Rattle.mum_users.specs.declared.user.User.{User}
-use Rattle.mum_state.proofs.Each.{Each}
-use Rattle.mum_core.specs.declared.connection.Connection.{Connection}
-use Rattle.mum_core.specs.declared.connection.Leave.TheVariants.{Stays}
-use Rattle.mum_core.specs.declared.connection.Seat.{Seat}
-use Rattle.mum_core.specs.Case.{first_that_stands}
-use Rattle.mum_core.specs.Connection.{fresh}
-use Rattle.mum_core.specs.Core.{CoreState, at_connection, connection_at, current, is_opened, posts_at, worker_at}
-use Rattle.mum_core.specs.Delivery.{forbids}
-use Rattle.mum_core.specs.Lists.{changed_at}
-use Rattle.mum_core.specs.Worker.{WorkerState, in_hand}
-use Rattle.mum_core.proofs.Changed.{changed_other, changed_same, length-changed}
-use Rattle.mum_core.proofs.Places.{at_place, conn, placed}
-use Rattle.mum_exercise.specs.declared.exercise.TheConstants.{WORKERS}
+use Rattle.mum_laws.proofs.Common.{◌≡◌, ℕ, ◌+◌, ◌-◌, ◌≤◌, ◌<◌, ◌%◌, Bool, true, false, cond, List, [], length, Option, Some, None, refl, sym, ap, subst, ◌∙◌, arith, is_none, is_some, nat_lt, not, slice_index_or, lt-ltb, SessionId, Slot, User, Each, Connection, Stays, Seat, first_that_stands, fresh, CoreState, at_connection, connection_at, current, is_opened, posts_at, worker_at, forbids, changed_at, WorkerState, in_hand, changed_other, changed_same, length-changed, at_place, conn, placed, WORKERS}
 
 -- ---- what is at rest
 
--- a connection that asked for nothing that is not told, and was not rejected
+-- a connection that asked for nothing that is not answered, and was not rejected
 abbrev pub at_rest : ℕ → Option ℕ → Option Seat → Bool → Connection
 at_rest worker version seat lagged = record {
   worker = worker;

@@ -1,31 +1,6 @@
 -- Who is there after a verdict has a connection with its seat, where all who were there before had one.
-use Rattle.std.proofs.Common.{◌≡◌, ℕ, ◌+◌, ◌-◌, ◌<◌, Bool, true, false, cond, List, map, Option, Some, None, sym, ap, ◌∙◌, arith, inl, inr}
-use Rattle.std.specs.Prelude.{not, if◌then◌else◌}
-use Rattle.std.specs.Option.{option_or}
-use Rattle.std.proofs.lemmas.Bool.{cases_eq}
-use Rattle.mum_base.specs.declared.number.AccountId.{AccountId}
-use Rattle.mum_base.specs.declared.number.SessionId.{SessionId}
-use Rattle.mum_base.specs.declared.number.Slot.{Slot}
-use Rattle.mum_users.specs.declared.user.User.{User}
-use Rattle.mum_users.specs.Edit.{changed_user}
-use Rattle.mum_users.specs.Sessions.{free_slot, next_number, next_slot}
-use Rattle.mum_users.specs.State.{RosterState, has_number, joining}
-use Rattle.mum_tree.specs.Refusals.{parent_of}
-use Rattle.mum_tree.specs.Rows.{is_below}
-use Rattle.mum_state.specs.declared.edit.Edit.{Edit}
-use Rattle.mum_state.specs.declared.edit.Edit.TheVariants.{Join, Kick, Leave, MakeChannel, RemoveChannel, SetTarget, SetTokens, SetUser}
-use Rattle.mum_state.specs.declared.verdict.Verdict.{Verdict}
-use Rattle.mum_state.specs.declared.verdict.Verdict.TheVariants.{Accepted}
-use Rattle.mum_state.specs.Parts.{user_parts}
-use Rattle.mum_state.specs.Set.{set_by}
-use Rattle.mum_state.specs.State.{StateValue}
-use Rattle.mum_state.proofs.Descent.{applied_descends}
-use Rattle.mum_state.proofs.Each.{Each, each_filter, each_insert, each_map, each_so}
-use Rattle.mum_core.specs.declared.connection.Seat.{Seat}
-use Rattle.mum_core.specs.Core.{CoreState, current}
-use Rattle.mum_core.specs.Reply.{seat_of}
-use Rattle.mum_laws.proofs.Requesting.{AllSeated, state_after}
-use Rattle.mum_laws.proofs.Resting.{AreSeated, HasSeat, seat_as, seats_of}
+use Rattle.mum_laws.proofs.Common.{◌≡◌, ℕ, ◌+◌, ◌-◌, ◌<◌, Bool, true, false, cond, List, map, Option, Some, None, sym, ap, ◌∙◌, arith, inl, inr, not, if◌then◌else◌, option_or, cases_eq, AccountId, SessionId, Slot, User, changed_user, free_slot, next_number, next_slot, RosterState, has_number, joining, parent_of, is_below, Edit, Join, Kick, Leave, MakeChannel, RemoveChannel, SetTarget, SetTokens, SetUser, Verdict, Accepted, user_parts, set_by, StateValue, applied_descends, Each, each_filter, each_insert, each_map, each_so, Seat, CoreState, current, seat_of}
+use Rattle.mum_laws.proofs.{Requesting.AllSeated, Requesting.state_after, Resting.AreSeated, Resting.HasSeat, Resting.seat_as, Resting.seats_of}
 
 -- ---- an edit that lets nobody in leaves those who were there, or some of them
 

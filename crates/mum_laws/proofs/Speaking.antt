@@ -1,61 +1,10 @@
 -- A packet of a core at rest is heard, looked for, offered and drained, and the core is at rest again.
-use Rattle.std.proofs.Common.{◌≡◌, ℕ, zero, suc, ◌+◌, ◌-◌, ◌/◌, ◌%◌, ◌^◌, ◌<◌, Bool, true, false, cond, List, [], ◌∷◌, ◌++◌, length, map, take, drop, Option, Some, None, Result, Ok, refl, sym, ap, subst, ◌∙◌, arith, length-append, inl, inr}
-use Rattle.std.specs.Prelude.{is_none, nat_lt, not, slice_get, slice_index_or}
-use Rattle.std.specs.List.{AllByRecursion}
-use Rattle.std.proofs.lemmas.Bool.{cases_eq, le-ltb, lt-ltb}
-use Rattle.std.proofs.lemmas.List.{append-nil, drop_at, take_all}
-use Rattle.std.proofs.lemmas.Nat.{mod_below}
-use Rattle.mum_base.specs.declared.number.SessionId.{SessionId}
-use Rattle.mum_base.specs.declared.number.Slot.{Slot}
-use Rattle.mum_frame.specs.Frame.{kind_of, payload_of, spelling_of}
-use Rattle.mum_frame.specs.declared.kind.TheConstants.{UDP_TUNNEL}
-use Rattle.mum_frame.proofs.Headers.{kind-reads_back}
-use Rattle.mum_frame.proofs.OneFrame.{payload_of-spelling}
-use Rattle.mum_voice.specs.Packet.{Parts, audio_len, is_audio_kind, opus_len, packet, packet_by_audio, packet_by_sequence}
-use Rattle.mum_voice.specs.declared.fault.BadVoice.{BadVoice}
-use Rattle.mum_voice.specs.declared.packet.TheConstants.{PACKET_LIMIT}
-use Rattle.mum_voice.specs.Varint.{number_at, shortest_word, word_at}
-use Rattle.mum_voice.proofs.Shortest.{length-shortest_word, shortest_word-read}
-use Rattle.mum_users.specs.declared.user.User.{User}
+use Rattle.mum_laws.proofs.Common.{◌≡◌, ℕ, zero, suc, ◌+◌, ◌-◌, ◌/◌, ◌%◌, ◌^◌, ◌<◌, Bool, true, false, cond, List, [], ◌∷◌, ◌++◌, length, map, take, drop, Option, Some, None, Result, Ok, refl, sym, ap, subst, ◌∙◌, arith, length-append, inl, inr, is_none, nat_lt, not, slice_get, slice_index_or, AllByRecursion, cases_eq, le-ltb, lt-ltb, append-nil, drop_at, take_all, mod_below, SessionId, Slot, kind_of, payload_of, spelling_of, UDP_TUNNEL, kind-reads_back, payload_of-spelling, Parts, audio_len, is_audio_kind, opus_len, packet, packet_by_audio, packet_by_sequence, BadVoice, PACKET_LIMIT, number_at, shortest_word, word_at, length-shortest_word, shortest_word-read, User, has_number, Edit, led_to, StateValue, each_find, hearers_at, Member, each_hearer, seated, found_number, action, Action, Voice, Step, Drain, Frame, Look, Offer, Connection, Seat, Outgoing, fresh, CoreState, at_worker, connection_at, current, state_at, up, worker_at, IsRun, ran, machine_of, does, frame_action, frame_version, illegal, HeldPacket, WorkerState, idle, least_look, copy_queues, hears, spoken, changed_other, changed_same, length-changed, delivered, conn, puts_workers, taken_core, packet_bytes, voice_frame, worker_of, WORKERS}
 use Rattle.mum_users.specs.Sessions.{session_of}
-use Rattle.mum_users.specs.State.{has_number}
-use Rattle.mum_state.specs.declared.edit.Edit.{Edit}
-use Rattle.mum_state.specs.After.{led_to}
-use Rattle.mum_state.specs.State.{StateValue}
-use Rattle.mum_state.proofs.Each.{each_find}
-use Rattle.mum_route.specs.Hearers.{hearers_at}
-use Rattle.mum_route.specs.Route.{Member}
-use Rattle.mum_route.proofs.Seated.{each_hearer, seated}
-use Rattle.mum_route.proofs.Hearers.{found_number}
-use Rattle.mum_session.specs.Action.{action}
-use Rattle.mum_session.specs.declared.action.Action.{Action}
-use Rattle.mum_session.specs.declared.action.Action.TheVariants.{Voice}
-use Rattle.mum_record.specs.declared.step.Step.{Step}
-use Rattle.mum_record.specs.declared.step.Step.TheVariants.{Drain, Frame, Look, Offer}
-use Rattle.mum_core.specs.declared.connection.Connection.{Connection}
-use Rattle.mum_core.specs.declared.connection.Seat.{Seat}
-use Rattle.mum_core.specs.declared.worker.Outgoing.{Outgoing}
-use Rattle.mum_core.specs.Connection.{fresh}
-use Rattle.mum_core.specs.Core.{CoreState, at_worker, connection_at, current, state_at, up, worker_at}
-use Rattle.mum_core.specs.Laws.{IsRun, ran}
-use Rattle.mum_core.specs.Machine.{machine_of}
-use Rattle.mum_core.specs.Step.{does, frame_action, frame_version, illegal}
-use Rattle.mum_core.specs.Worker.{HeldPacket, WorkerState, idle, least_look}
-use Rattle.mum_core.specs.steps.Drain.{copy_queues}
+use Rattle.mum_laws.proofs.{Bringing.AreEmpty, Requesting.frame_allowed, Resting.AreSeated, Resting.HasSeat, Resting.IsFree, Resting.Rest, Resting.Rests, Resting.at_rest, Resting.here, Resting.may_take, Resting.passed, Resting.seats_of}
 use Rattle.mum_core.specs.steps.Frame as frame_step
-use Rattle.mum_core.specs.steps.Frame.{hears, spoken}
 use Rattle.mum_core.specs.steps.Look as look_step
 use Rattle.mum_core.specs.steps.Offer as offer_step
-use Rattle.mum_core.proofs.Changed.{changed_other, changed_same, length-changed}
-use Rattle.mum_core.proofs.Delivered.{delivered}
-use Rattle.mum_core.proofs.Places.{conn}
-use Rattle.mum_core.proofs.RunLaws.{puts_workers, taken_core}
-use Rattle.mum_exercise.specs.Acts.{packet_bytes, voice_frame}
-use Rattle.mum_exercise.specs.Exercise.{worker_of}
-use Rattle.mum_exercise.specs.declared.exercise.TheConstants.{WORKERS}
-use Rattle.mum_laws.proofs.Bringing.{AreEmpty}
-use Rattle.mum_laws.proofs.Requesting.{frame_allowed}
-use Rattle.mum_laws.proofs.Resting.{AreSeated, HasSeat, IsFree, Rest, Rests, at_rest, here, may_take, passed, seats_of}
 
 -- ---- the packet of a round
 

@@ -1,40 +1,12 @@
 -- Each connection is at a worker that there is.
-use Rattle.std.proofs.Common.{◌≡◌, ℕ, zero, suc, ◌+◌, ◌-◌, ◌<◌, Bool, true, false, cond, List, [], ◌∷◌, ◌++◌, length, Option, Some, None, refl, sym, ap, subst, ◌∙◌, arith}
-use Rattle.std.specs.Prelude.{◌==◌, nat_lt, not, slice_index_or}
-use Rattle.std.specs.Option.{option_map_or}
-use Rattle.std.proofs.lemmas.Bool.{and_parts, ltb-true}
-use Rattle.std.proofs.lemmas.List.{length-map, length-replicate}
-use Rattle.mum_voice.specs.Packet.{packet}
-use Rattle.mum_notify.specs.declared.notice.Notice.{Notice}
-use Rattle.mum_state.specs.State.{StateValue}
-use Rattle.mum_state.specs.declared.verdict.Verdict.{Verdict}
-use Rattle.mum_session.specs.declared.action.Action.{Action}
-use Rattle.mum_session.specs.declared.action.Action.TheVariants.{Ask, Voice, Keep}
-use Rattle.mum_record.specs.declared.head.Version.{Version}
+use Rattle.mum_laws.proofs.Common.{◌≡◌, ℕ, zero, suc, ◌+◌, ◌-◌, ◌<◌, Bool, true, false, cond, List, [], ◌∷◌, ◌++◌, length, Option, Some, None, refl, sym, ap, subst, ◌∙◌, arith, ◌==◌, nat_lt, not, slice_index_or, option_map_or, and_parts, ltb-true, length-map, length-replicate, packet, Notice, StateValue, Verdict, Action, Ask, Voice, Keep, Version, Step, Open, Frame, Publish, Tell, Look, Offer, Post, Drain, Collect, Close, End, Connection, Outgoing, asking, closed_at, fresh, is_of, lagging, told, CoreState, at_posts, at_session, connection_at, is_opened, start, up, IsRun, ran, changed_at, does, frame_action, frame_version, illegal, HeldPacket, idle, copy_queues, notice_queues, spoken, length-changed, delivered, conn, place_stays, placed, none_stands, posting_core, taken_core, told_core}
+use Rattle.mum_laws.proofs.{Finding.is_there, Taking.as_many}
 use Rattle.mum_record.specs.declared.step.Step.TheVariants as steps
-use Rattle.mum_record.specs.declared.step.Step.{Step}
-use Rattle.mum_record.specs.declared.step.Step.TheVariants.{Open, Frame, Publish, Tell, Look, Offer, Post, Drain, Collect, Close, End}
-use Rattle.mum_core.specs.declared.connection.Connection.{Connection}
-use Rattle.mum_core.specs.declared.worker.Outgoing.{Outgoing}
-use Rattle.mum_core.specs.Connection.{asking, closed_at, fresh, is_of, lagging, told}
-use Rattle.mum_core.specs.Core.{CoreState, at_posts, at_session, connection_at, is_opened, start, up}
-use Rattle.mum_core.specs.Laws.{IsRun, ran}
-use Rattle.mum_core.specs.Lists.{changed_at}
-use Rattle.mum_core.specs.Step.{does, frame_action, frame_version, illegal}
-use Rattle.mum_core.specs.Worker.{HeldPacket, idle}
-use Rattle.mum_core.specs.steps.{Drain.copy_queues, Collect.notice_queues}
 use Rattle.mum_core.specs.steps.Edit as edit_step
 use Rattle.mum_core.specs.steps.Frame as frame_step
-use Rattle.mum_core.specs.steps.Frame.{spoken}
 use Rattle.mum_core.specs.steps.Offer as offer_step
 use Rattle.mum_core.specs.steps.Post as post_step
 use Rattle.mum_core.specs.steps.Tell as tell_step
-use Rattle.mum_core.proofs.Changed.{length-changed}
-use Rattle.mum_core.proofs.Delivered.{delivered}
-use Rattle.mum_core.proofs.Places.{conn, place_stays, placed}
-use Rattle.mum_core.proofs.RunLaws.{none_stands, posting_core, taken_core, told_core}
-use Rattle.mum_laws.proofs.Finding.{is_there}
-use Rattle.mum_laws.proofs.Taking.{as_many}
 
 -- ---- no step but an open makes a connection
 

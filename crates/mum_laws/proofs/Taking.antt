@@ -1,30 +1,12 @@
 -- Each packet is looked for once, and is taken of a frame.
-use Rattle.std.proofs.Common.{◌≡◌, ℕ, ◌<◌, max, Bool, true, false, cond, List, [], ◌∷◌, ◌++◌, length, drop, Option, Some, None, refl, sym, ap, ◌∙◌, arith, inl, inr}
-use Rattle.std.specs.Prelude.{◌==◌, ◌⊎◌, is_none, option_to_list, replicate, slice_index_or}
-use Rattle.std.proofs.lemmas.Bool.{eqb-false, eqb-true}
-use Rattle.std.proofs.lemmas.List.{append-nil, length-replicate}
-use Rattle.mum_state.specs.State.{StateValue}
-use Rattle.mum_session.specs.declared.action.Action.{Action}
-use Rattle.mum_session.specs.declared.action.Action.TheVariants.{Voice}
-use Rattle.mum_record.specs.declared.head.Version.{Version}
+use Rattle.mum_laws.proofs.Common.{◌≡◌, ℕ, ◌<◌, max, Bool, true, false, cond, List, [], ◌∷◌, ◌++◌, length, drop, Option, Some, None, refl, sym, ap, ◌∙◌, arith, inl, inr, ◌==◌, ◌⊎◌, is_none, option_to_list, replicate, slice_index_or, eqb-false, eqb-true, append-nil, length-replicate, StateValue, Action, Voice, Version, Step, Open, Frame, Publish, Tell, Look, Offer, Post, Drain, Collect, Close, End, CoreState, connection_at, start, state_at, worker_at, IsRun, gathered, packet_taken, ran, does, frame_action, frame_version, illegal, HeldPacket, WorkerState, idle, changed-by, changed_other, changed_same, length-changed, frame_hands, collect_workers, decided_workers, drain_workers, posted_workers, puts_workers, taken_core, told_core, looked_for, packet_in, said}
+use Rattle.mum_laws.proofs.{Finding.idle_at, Finding.is_there, Finding.joins, Voicing.frame_finds, Voicing.heard_by}
 use Rattle.mum_record.specs.declared.step.Step.TheVariants as steps
-use Rattle.mum_record.specs.declared.step.Step.{Step}
-use Rattle.mum_record.specs.declared.step.Step.TheVariants.{Open, Frame, Publish, Tell, Look, Offer, Post, Drain, Collect, Close, End}
-use Rattle.mum_core.specs.Core.{CoreState, connection_at, start, state_at, worker_at}
-use Rattle.mum_core.specs.Laws.{IsRun, gathered, packet_taken, ran}
-use Rattle.mum_core.specs.Step.{does, frame_action, frame_version, illegal}
-use Rattle.mum_core.specs.Worker.{HeldPacket, WorkerState, idle}
 use Rattle.mum_core.specs.steps.Edit as edit_step
 use Rattle.mum_core.specs.steps.Frame as frame_step
 use Rattle.mum_core.specs.steps.Look as look_step
 use Rattle.mum_core.specs.steps.Offer as offer_step
 use Rattle.mum_core.specs.steps.Tell as tell_step
-use Rattle.mum_core.proofs.Changed.{changed-by, changed_other, changed_same, length-changed}
-use Rattle.mum_core.proofs.Counts.{frame_hands}
-use Rattle.mum_core.proofs.RunLaws.{collect_workers, decided_workers, drain_workers, posted_workers, puts_workers, taken_core, told_core}
-use Rattle.mum_laws.specs.Packets.{looked_for, packet_in, said}
-use Rattle.mum_laws.proofs.Finding.{idle_at, is_there, joins}
-use Rattle.mum_laws.proofs.Voicing.{frame_finds, heard_by}
 
 -- ---- no step makes or takes a worker
 

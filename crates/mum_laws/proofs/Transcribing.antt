@@ -1,25 +1,6 @@
--- What is told behind the head of a recording are the lines of a run.
-use Rattle.std.proofs.Common.{◌≡◌, ℕ, ◌+◌, ◌-◌, ◌≤◌, ◌<◌, ◌⊎◌, Bool, true, false, cond, List, [], ◌∷◌, ◌++◌, length, map, Option, Some, None, refl, sym, ap, subst, ◌∙◌, arith, inl, inr, length-append}
-use Rattle.std.specs.Prelude.{nat_lt, ◌||◌}
-use Rattle.std.proofs.lemmas.Bool.{ltb-false, ltb-true}
-use Rattle.std.proofs.lemmas.List.{append-nil}
-use Rattle.std.proofs.lemmas.List.Concat.{flat_map-append}
-use Rattle.mum_record.specs.Grammar.{IsLineOf, line_of}
-use Rattle.mum_record.specs.Journal.{ended_lines}
-use Rattle.mum_record.specs.Reading.{step_of}
-use Rattle.mum_record.specs.Words.{line_of_words}
-use Rattle.mum_record.specs.declared.step.Step.{Step}
+-- What is reported after the head of a recording are the lines of a run.
+use Rattle.mum_laws.proofs.Common.{◌≡◌, ℕ, ◌+◌, ◌-◌, ◌≤◌, ◌<◌, ◌⊎◌, Bool, true, false, cond, List, [], ◌∷◌, ◌++◌, length, map, Option, Some, None, refl, sym, ap, subst, ◌∙◌, arith, inl, inr, length-append, nat_lt, ◌||◌, ltb-false, ltb-true, append-nil, flat_map-append, IsLineOf, line_of, ended_lines, step_of, line_of_words, Step, step_of-found, step_of-line_of, CoreState, gathered, ran, text_of, does, illegal, lines, Outcome, StopsAt, allowed_answer, answer, behind, goes_on, is_too_long, outcome_from, phase_after, step_answer, stops_at, Faulty, Phase, TooLong, BadRecording, IllegalStep, Over, Running, EndsAt, IsLong, IsRunFrom, IsShort, NoneIsBehindTheEnd, is_end, is_over}
 use Rattle.mum_record.specs.declared.step.Step.TheVariants as steps
-use Rattle.mum_record.proofs.Laws.{step_of-found, step_of-line_of}
-use Rattle.mum_core.specs.Core.{CoreState}
-use Rattle.mum_core.specs.Laws.{gathered, ran}
-use Rattle.mum_core.specs.Line.{text_of}
-use Rattle.mum_core.specs.Step.{does, illegal, lines}
-use Rattle.mum_server.specs.Replay.{Outcome, Stops as StopsAt, allowed_answer, answer, behind, goes_on, is_too_long, outcome_from, phase_after, step_answer, stops_at}
-use Rattle.mum_server.specs.declared.{end.End.TheVariants.Faulty, replay.Phase.Phase}
-use Rattle.mum_server.specs.declared.end.LineFault.TheVariants.{TooLong, BadRecording, IllegalStep}
-use Rattle.mum_server.specs.declared.replay.Phase.TheVariants.{Over, Running}
-use Rattle.mum_laws.specs.Recordings.{EndsAt, IsLong, IsRunFrom, IsShort, NoneIsBehindTheEnd, is_end, is_over}
 
 pub not_nil : {A : Type 0} (x : A) (xs : List A) → x ∷ xs ≡ [] → ⊥
 not_nil x xs e = cc
@@ -34,7 +15,7 @@ or_false : (a b : Bool) → (a || b) ≡ false → (a ≡ false) × (b ≡ false
 or_false true b h = cc
 or_false false b h = (refl, h)
 
--- so many bytes come before, and so many may still come
+-- m bytes come before, and n may still come
 long_from : (before left line all : ℕ) → before + left ≡ 67108864 → is_too_long left line all ≡ true → (131200 < line) ⊎ (67108864 < before + all)
 long_from before left line all sum long = elim (or_parts (nat_lt 131200 line) (nat_lt left all) long) [
   | inl above ↦ inl (ltb-true 131200 line above)
@@ -126,9 +107,9 @@ run_last before n core line rest outcome is none ends =
       ending = subst (λ (b : ℕ). EndsAt b (n + 1) (does core steps.End) true rest outcome.ending) first ends;
     }
 
--- ---- behind the last step
+-- ---- after the last step
 
--- what is behind it, where that is not nothing
+-- what follows it, where that is not nothing
 over_stops : (before n left size : ℕ) (core : CoreState) (piece : List ℕ) (more : List (List ℕ)) (b : Bool) → is_too_long left (length piece) size ≡ b → before + left ≡ 67108864
     → (is_too_long left (length piece) size ≡ true → IsLong before piece more) → (is_too_long left (length piece) size ≡ false → IsShort before piece more)
     → ((piece ≡ []) × (more ≡ []) → ⊥) → EndsAt before n core true (piece ∷ more) (Faulty n (cond b TooLong BadRecording))
@@ -160,7 +141,7 @@ over_ends before n left core (line ∷ next ∷ more) sum filled =
 
 -- ---- the steps
 
--- the last step, or one behind which the run goes on
+-- the last step, or one after which the run goes on
 phase_by : (core : CoreState) (step : Step) → (step ≡ steps.End) ⊎ ((phase_after core step ≡ Running (does core step)) × (is_end step ≡ false))
 phase_by core (steps.Open c w) = inr (refl, refl)
 phase_by core (steps.Frame c bytes) = inr (refl, refl)
@@ -192,7 +173,7 @@ module _ (before n left : ℕ) (core : CoreState) (line next : List ℕ) (more :
   abbrev rest_of : Phase → Outcome
   rest_of after = outcome_from after (n + 1) (left - (length line + 1)) parts
 
-  -- the run behind this line
+  -- the run after this line
   abbrev Later : Type 0
   Later = (other : CoreState) → IsRunFrom (before + (length line + 1)) (n + 1) other parts (rest_of (Running other))
 

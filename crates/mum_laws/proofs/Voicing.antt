@@ -1,33 +1,8 @@
 -- The packet that a frame is, where its action has the core hear one.
-use Rattle.std.proofs.Common.{◌≡◌, ℕ, Bool, true, false, cond, List, [], Option, Some, None, Result, Ok, Err, refl, sym, ap, ◌∙◌, inl, inr}
-use Rattle.std.specs.Prelude.{◌==◌, ◌&&◌, ◌⊎◌, option_to_list}
-use Rattle.std.specs.List.{list_any}
-use Rattle.std.specs.Option.{option_map, option_map_or}
-use Rattle.mum_base.specs.declared.number.SessionId.{SessionId}
-use Rattle.mum_base.specs.declared.outcome.Reason.TheVariants.{Gone}
-use Rattle.mum_frame.specs.Frame.{kind_of, payload_of}
-use Rattle.mum_frame.specs.declared.kind.TheConstants.{AUTHENTICATE, PING, UDP_TUNNEL, VERSION}
-use Rattle.mum_msg_state.specs.Messages.{ping, version}
-use Rattle.mum_fields.specs.Table.{decoded}
-use Rattle.mum_voice.specs.Packet.{Parts, packet}
-use Rattle.mum_voice.specs.declared.fault.BadVoice.{BadVoice}
-use Rattle.mum_session.specs.Action.{Decoded, action, after_login, bans_action, command_action, commands_after_login, ignore, other_action, ping_action, tree_or_user_action, version_action, voice_action}
-use Rattle.mum_session.specs.Heard.{command_heard, login_heard}
-use Rattle.mum_session.specs.Machine.{Machine, is_rejected, session_of}
-use Rattle.mum_session.specs.declared.action.Action.{Action}
-use Rattle.mum_session.specs.declared.action.Action.TheVariants.{Voice, Bans}
-use Rattle.mum_session.specs.declared.action.TheConstants.{BAN_LIST}
-use Rattle.mum_session.specs.declared.command.Asked.{Asked}
-use Rattle.mum_session.specs.declared.heard.Heard.{Heard}
+use Rattle.mum_laws.proofs.Common.{◌≡◌, ℕ, Bool, true, false, cond, List, [], Option, Some, None, Result, Ok, Err, refl, sym, ap, ◌∙◌, inl, inr, ◌==◌, ◌&&◌, ◌⊎◌, option_to_list, list_any, option_map, option_map_or, SessionId, Gone, kind_of, payload_of, AUTHENTICATE, PING, UDP_TUNNEL, VERSION, ping, version, decoded, Parts, packet, BadVoice, Decoded, action, after_login, bans_action, command_action, commands_after_login, ignore, other_action, ping_action, tree_or_user_action, version_action, voice_action, command_heard, login_heard, Machine, Action, Voice, Bans, BAN_LIST, Asked, Heard, Stage, BeforeLogin, LoggedIn, Connection, Seat, machine_of, HeldPacket, spoken, packet_by, packet_in, speaker_of}
+use Rattle.mum_session.specs.Machine.{is_rejected, session_of}
+use Rattle.mum_session.specs.declared.session.Stage.TheVariants.{Rejected}
 use Rattle.mum_session.specs.declared.heard.Heard.TheVariants as heard
-use Rattle.mum_session.specs.declared.session.Stage.{Stage}
-use Rattle.mum_session.specs.declared.session.Stage.TheVariants.{BeforeLogin, LoggedIn, Rejected}
-use Rattle.mum_core.specs.declared.connection.Connection.{Connection}
-use Rattle.mum_core.specs.declared.connection.Seat.{Seat}
-use Rattle.mum_core.specs.Machine.{machine_of}
-use Rattle.mum_core.specs.Worker.{HeldPacket}
-use Rattle.mum_core.specs.steps.Frame.{spoken}
-use Rattle.mum_laws.specs.Packets.{packet_by, packet_in, speaker_of}
 
 -- the packet that is heard by an action of a connection with this seat
 abbrev pub heard_by : Option Seat → Action → Option HeldPacket

@@ -1,69 +1,9 @@
 -- Each step of an exercise is allowed where it comes, so none is left out.
-use Rattle.std.proofs.Common.{◌≡◌, ℕ, zero, suc, ◌+◌, ◌-◌, ◌%◌, ◌^◌, ◌≤◌, ◌<◌, Bool, true, false, cond, List, [], ◌∷◌, ◌++◌, length, Option, Some, None, refl, sym, ap, subst, ◌∙◌, arith, inl, inr, length-append}
-use Rattle.std.specs.Prelude.{◌==◌, is_some, nat_lt, not, replicate, slice_index_or, if◌then◌else◌}
-use Rattle.std.specs.Fmt.{digits}
-use Rattle.std.specs.Float.Numeral.{scan_numeral}
-use Rattle.std.specs.List.{flat_map}
-use Rattle.std.specs.Option.{option_map, option_or}
-use Rattle.std.specs.Str.{chars, is_utf8}
-use lib.Utf8.{encode}
-use Rattle.std.proofs.lemmas.Bool.{cases_eq, eq-eqb, lt-ltb}
-use Rattle.std.proofs.lemmas.List.{length-replicate}
-use Rattle.std.proofs.lemmas.Nat.{mod_below}
-use Rattle.json.specs.Json.{value}
-use Rattle.json.specs.Lex.{lex, punctuate}
-use Rattle.json.specs.Text.{content}
-use Rattle.json.specs.Word.{after_number, word}
-use Rattle.rand_pcg.specs.Lcg.{Lcg}
-use Rattle.rand_pcg.specs.Pcg.{pcg32}
-use Rattle.serde_json.specs.Read.{number_of}
-use Rattle.mum_base.specs.declared.number.SessionId.{SessionId}
-use Rattle.mum_base.specs.declared.number.Slot.{Slot}
-use Rattle.mum_base.specs.declared.number.TheConstants.{SLOTS}
-use Rattle.mum_config.specs.Channel.{channel_edits}
-use Rattle.mum_config.specs.Document.{config_of, edits_of}
-use Rattle.mum_users.specs.Sessions.{next_number, next_slot}
-use Rattle.mum_users.specs.State.{RosterState, empty_roster}
-use Rattle.mum_users.specs.declared.user.User.{User}
-use Rattle.mum_state.specs.declared.verdict.Verdict.{Verdict}
-use Rattle.mum_state.specs.declared.verdict.Verdict.TheVariants.{Accepted}
-use Rattle.mum_state.specs.State.{StateValue}
-use Rattle.mum_state.proofs.Each.{Each, each_so}
-use Rattle.mum_notify.specs.declared.notice.Notice.{Notice}
-use Rattle.mum_session.specs.Reply.{mark}
-use Rattle.mum_session.specs.Verdict.{verdict}
-use Rattle.mum_session.specs.declared.command.Asked.{Asked}
-use Rattle.mum_session.specs.declared.command.Command.{Command}
-use Rattle.mum_record.specs.declared.step.Step.{Step}
-use Rattle.mum_record.specs.declared.step.Step.TheVariants.{End, Frame, Look, Open, Tell}
-use Rattle.mum_core.specs.declared.connection.Connection.{Connection}
-use Rattle.mum_core.specs.declared.connection.Seat.{Seat}
-use Rattle.mum_core.specs.Connection.{fresh, is_rejected}
-use Rattle.mum_core.specs.Core.{CoreState, connection_at, current, worker_at}
-use Rattle.mum_core.specs.Laws.{IsRun, ran}
-use Rattle.mum_core.specs.Reply.{seat_of}
-use Rattle.mum_core.specs.Step.{does, illegal}
-use Rattle.mum_core.specs.Worker.{idle}
-use Rattle.mum_core.proofs.Lower.{SeatsNext, verdict_seats}
-use Rattle.mum_core.proofs.Places.{conn}
+use Rattle.mum_laws.proofs.Common.{◌≡◌, ℕ, zero, suc, ◌+◌, ◌-◌, ◌%◌, ◌^◌, ◌≤◌, ◌<◌, Bool, true, false, cond, List, [], ◌∷◌, ◌++◌, length, Option, Some, None, refl, sym, ap, subst, ◌∙◌, arith, inl, inr, length-append, ◌==◌, is_some, nat_lt, not, replicate, slice_index_or, if◌then◌else◌, digits, scan_numeral, flat_map, option_map, option_or, chars, is_utf8, encode, cases_eq, eq-eqb, lt-ltb, length-replicate, mod_below, value, lex, punctuate, content, after_number, word, Lcg, pcg32, number_of, SessionId, Slot, SLOTS, channel_edits, config_of, next_number, next_slot, RosterState, empty_roster, User, Verdict, Accepted, StateValue, Each, each_so, Notice, mark, verdict, Asked, Command, Step, End, Frame, Look, Open, Tell, Connection, Seat, fresh, is_rejected, CoreState, connection_at, current, worker_at, IsRun, ran, seat_of, does, illegal, idle, SeatsNext, verdict_seats, conn, aiming, channel_frame, entering, linking, listening, login_frame, self_muting, target_frame, user_frame, user_name, voice_frame, drawn_act, drawn_below, drawn_round, seeded, CourseValue, Progress, all_taken, begun, brings, counted, decided, document, exercised, note, taken, worker_of, opening, Act, Talk, Enter, Link, SetSelfMute, Listen, Aim, USERS, WORKERS, IsDone, acted, commanded, exercised_whole, joined, progress, with_step, with_steps}
+use Rattle.mum_config.specs.Document.{edits_of}
+use Rattle.mum_laws.specs.Exercises.{spoken}
+use Rattle.mum_laws.proofs.{Coming.Ready, Coming.comes, Coming.login_accepted, Coming.name_short, Coming.name_text, Coming.ready_next, Finding.idle_at, Rejecting.unrejected, Requesting.AllSeated, Requesting.Commanded, Requesting.asker, Requesting.commanded_so, Requesting.command_steps, Requesting.state_after, Requesting.verdict_at, Resting.here, Resting.AllIn, Resting.AreSeated, Resting.HasSeat, Resting.IsFree, Resting.Rest, Resting.Rests, Resting.passed, Resting.seat_as, Resting.seats_of, Seating.seats_given, Seating.seats_kept, Speaking.deliveries, Speaking.looking, Speaking.speaks_so, Wording.Asks, Wording.aim_asks, Wording.asked_login, Wording.come_asks, Wording.enter_asks, Wording.link_asks, Wording.listen_asks, Wording.mute_asks}
 use Rattle.mum_exercise.specs.Exercise as exercise
-use Rattle.mum_exercise.specs.Acts.{aiming, channel_frame, entering, linking, listening, login_frame, self_muting, target_frame, user_frame, user_name, voice_frame}
-use Rattle.mum_exercise.specs.Draws.{drawn_act, drawn_below, drawn_round, seeded}
-use Rattle.mum_exercise.specs.Exercise.{CourseValue, Progress, all_taken, begun, brings, counted, decided, document, exercised, note, taken, worker_of}
-use Rattle.mum_opening.specs.Opening.{opening}
-use Rattle.mum_exercise.specs.declared.draws.Act.{Act}
-use Rattle.mum_exercise.specs.declared.draws.Act.TheVariants.{Talk, Enter, Link, SetSelfMute, Listen, Aim}
-use Rattle.mum_exercise.specs.declared.draws.TheConstants.{USERS}
-use Rattle.mum_exercise.specs.declared.exercise.TheConstants.{WORKERS}
-use Rattle.mum_laws.specs.Exercises.{IsDone, acted, commanded, exercised_whole, joined, progress, spoken, with_step, with_steps}
-use Rattle.mum_laws.proofs.Coming.{Ready, comes, login_accepted, name_short, name_text, ready_next}
-use Rattle.mum_laws.proofs.Finding.{idle_at}
-use Rattle.mum_laws.proofs.Rejecting.{unrejected}
-use Rattle.mum_laws.proofs.Requesting.{AllSeated, Commanded, asker, commanded_so, command_steps, state_after, verdict_at}
-use Rattle.mum_laws.proofs.Resting.{here, AllIn, AreSeated, HasSeat, IsFree, Rest, Rests, passed, seat_as, seats_of}
-use Rattle.mum_laws.proofs.Seating.{seats_given, seats_kept}
-use Rattle.mum_laws.proofs.Speaking.{deliveries, looking, speaks_so}
-use Rattle.mum_laws.proofs.Wording.{Asks, aim_asks, asked_login, come_asks, enter_asks, link_asks, listen_asks, mute_asks}
 
 -- ---- steps that are allowed are taken
 
@@ -74,7 +14,7 @@ same_steps : (run : List Step) (course : CourseValue) → IsRun course.core run 
 same_steps [] course is = refl
 same_steps (step ∷ run) course is = ap (λ (one : CourseValue). all_taken one run) (same_step course step is.0) ∙ same_steps run (with_step course step) is.1
 
--- the core behind steps
+-- the core after steps
 core_behind : (run : List Step) (course : CourseValue) → (with_steps course run).core ≡ ran course.core run
 core_behind [] course = refl
 core_behind (step ∷ run) course = core_behind run (with_step course step)
@@ -247,7 +187,7 @@ opened_so core i rest =
       other = λ j apart. ap (λ (x : Connection). x.seat) (old j apart);
     }
 
--- when so many users came
+-- when n users came
 record Came (i : ℕ) (one all : CourseValue) : Type 0 where
   whole : Whole i one all
   ready : Ready i (current all.core)

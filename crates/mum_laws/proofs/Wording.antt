@@ -1,46 +1,10 @@
 -- The frames of an exercise ask for what they say.
-use Rattle.std.proofs.Common.{◌≡◌, ℕ, ◌+◌, ◌*◌, ◌%◌, ◌^◌, ◌≤◌, ◌<◌, Bool, true, false, cond, List, [], ◌∷◌, length, Option, Some, None, refl, ap, subst, ◌∙◌, arith}
-use Rattle.std.specs.Prelude.{IfSome, nat_lt}
-use Rattle.std.specs.List.{All}
-use Rattle.std.specs.Str.{IsUtf8}
-use Rattle.std.proofs.lemmas.Bool.{le-ltb}
-use Rattle.std.proofs.lemmas.List.Elements.{All-from_recursion}
-use Rattle.std.proofs.lemmas.Nat.{mod_low}
-use Rattle.mum_fields.specs.declared.shape.Kind.TheVariants.{Raw, Utf8}
-use Rattle.mum_fields.specs.declared.shape.Label.TheVariants.{Repeated}
-use Rattle.mum_fields.specs.Table.{Table, Values, bool, items, layout, missing, parts, rising, spelled, uint32}
-use Rattle.mum_fields.specs.Typed.{AreTyped, IsBytes, IsOne}
-use Rattle.mum_fields.specs.Written.{written}
-use Rattle.mum_fields.proofs.ReadBack.{read_back}
-use Rattle.mum_frame.specs.Frame.{kind_of, payload_of, spelling_of}
-use Rattle.mum_frame.specs.declared.kind.TheConstants.{AUTHENTICATE, CHANNEL_STATE, USER_STATE, VOICE_TARGET}
-use Rattle.mum_msg_rule.specs.Messages.{target_block, voice_target}
-use Rattle.mum_msg_rule.specs.Parts.{voice_target_of}
-use Rattle.mum_msg_rule.specs.declared.target_block.TargetBlock.{TargetBlock}
-use Rattle.mum_msg_state.specs.Messages.{authenticate, channel_state, user_state}
-use Rattle.mum_msg_state.specs.Parts.{authenticate_of, channel_state_of, user_state_of}
-use Rattle.mum_msg_state.specs.declared.user_state.UserState.{UserState}
-use Rattle.mum_notify.proofs.Bounds.{bound, items-few, row-few}
+use Rattle.mum_laws.proofs.Common.{◌≡◌, ℕ, ◌+◌, ◌*◌, ◌%◌, ◌^◌, ◌≤◌, ◌<◌, Bool, true, false, cond, List, [], ◌∷◌, length, Option, Some, None, refl, ap, subst, ◌∙◌, arith, IfSome, nat_lt, All, IsUtf8, le-ltb, All-from_recursion, mod_low, Raw, Utf8, Repeated, Table, Values, bool, items, layout, missing, parts, rising, spelled, uint32, AreTyped, IsOne, written, read_back, kind_of, payload_of, spelling_of, AUTHENTICATE, CHANNEL_STATE, USER_STATE, VOICE_TARGET, target_block, voice_target, voice_target_of, TargetBlock, authenticate, channel_state, user_state, authenticate_of, channel_state_of, user_state_of, UserState, bound, items-few, row-few, COMMAND_LIMIT, action, command_action, heard_map, read, read_from, Ask, Asked, Tree, Command, Heard, Message, Connection, Seat, CoreState, connection_at, machine_of, frame_action, conn, aiming, blank_user, channel_frame, entering, linking, listening, login, self_muting, target_frame, user_frame}
+use Rattle.mum_fields.specs.Typed.{IsBytes}
+use Rattle.mum_session.specs.declared.{command.Asked.TheVariants.User, heard.Heard.TheVariants.TooLong}
+use Rattle.mum_laws.proofs.{Resting.Rest, Resting.at_rest, Resting.here, Resting.seats_of, Speaking.kind_read, Speaking.payload_read}
 use Rattle.mum_rules_tree.specs.declared.message.TreeMessage.TheVariants as channels
-use Rattle.mum_rules_tree.specs.declared.reason.TheConstants.{COMMAND_LIMIT}
 use Rattle.mum_rules_user.specs.declared.message.UserMessage.TheVariants as users
-use Rattle.mum_session.specs.Action.{action, command_action}
-use Rattle.mum_session.specs.Heard.{heard_map, read, read_from}
-use Rattle.mum_session.specs.declared.action.Action.TheVariants.{Ask}
-use Rattle.mum_session.specs.declared.command.Asked.{Asked}
-use Rattle.mum_session.specs.declared.command.Asked.TheVariants.{Tree, User}
-use Rattle.mum_session.specs.declared.command.Command.{Command}
-use Rattle.mum_session.specs.declared.heard.Heard.{Heard}
-use Rattle.mum_session.specs.declared.heard.Heard.TheVariants.{Message, TooLong}
-use Rattle.mum_core.specs.declared.connection.Connection.{Connection}
-use Rattle.mum_core.specs.declared.connection.Seat.{Seat}
-use Rattle.mum_core.specs.Core.{CoreState, connection_at}
-use Rattle.mum_core.specs.Machine.{machine_of}
-use Rattle.mum_core.specs.Step.{frame_action}
-use Rattle.mum_core.proofs.Places.{conn}
-use Rattle.mum_exercise.specs.Acts.{aiming, blank_user, channel_frame, entering, linking, listening, login, self_muting, target_frame, user_frame}
-use Rattle.mum_laws.proofs.Resting.{Rest, at_rest, here, seats_of}
-use Rattle.mum_laws.proofs.Speaking.{kind_read, payload_read}
 
 -- ---- a message that is typed and short is read
 
@@ -183,7 +147,7 @@ module _ (n : ℕ) (core : CoreState) (i : ℕ) (seat : Seat) (rest : Rest n cor
             (target_asks (i + 1) x.worker x.version seat x.lagged (spelled voice_target (aiming channel)) (parts voice_target (aiming channel)) (aim_read channel low)),
       )
 
--- a connection that has told nothing asks to come
+-- a connection that has sent nothing asks to come
 abbrev pub asked_login : ℕ → ℕ → List ℕ → Command
 asked_login c worker name = record { connection = c; worker = worker; session = None; what = User (users.Join (login name) None) }
 

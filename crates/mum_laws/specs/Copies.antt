@@ -1,13 +1,11 @@
 -- The copies that a worker offers, and those that its looks find.
 use Rattle.std.specs.Prelude.{ℕ, ◌==◌, List, [], if◌then◌else◌, take}
+use Rattle.mum_record.specs.declared.step.Step.{Step, TheVariants.Look, TheVariants.Offer}
 use Rattle.mum_state.specs.After.{led_to}
-use Rattle.mum_record.specs.declared.step.Step.{Step}
-use Rattle.mum_record.specs.declared.step.Step.TheVariants.{Look, Offer}
-use Rattle.mum_core.specs.Core.{CoreState, worker_at}
+use Rattle.mum_core.specs.{Core.CoreState, Core.worker_at, steps.Look.copies}
 use Rattle.mum_core.specs.declared.worker.Outgoing.{Outgoing}
-use Rattle.mum_core.specs.steps.Look.{copies}
 
--- the copies that worker w finds in a step: by a look, in the state after so many accepted edits
+-- the copies that worker w finds in a step: by a look, in the state after n accepted edits
 abbrev pub found : ℕ → CoreState → Step → List Outgoing
 found w core (Look v revision) =
     if v == w then copies (led_to core.opening (take revision core.accepted)) (worker_at core w).held else []

@@ -3,8 +3,7 @@ use Rattle.std.specs.Prelude.{◌≡◌, ◌==◌, ℕ, List, [], ◌∷◌, Opt
 use Rattle.hex.specs.Hex.{encode_lower}
 use Rattle.mum_base.specs.declared.number.SessionId.{SessionId}
 use Rattle.mum_frame.specs.Frame.{spelling_of}
-use Rattle.mum_record.specs.declared.step.Step.{Step}
-use Rattle.mum_record.specs.declared.step.Step.TheVariants.{Collect, Drain}
+use Rattle.mum_record.specs.declared.step.Step.{Step, TheVariants.Collect, TheVariants.Drain}
 use Rattle.mum_core.specs.Core.{CoreState, connection_at, outbox_at, posts_at, up}
 use Rattle.mum_core.specs.Step.{lines}
 use Rattle.mum_core.specs.declared.{connection.Seat.Seat, outbox.Parcel.Parcel}
@@ -17,13 +16,14 @@ pub record FindsNone (old : CoreState) (c : ℕ) (new : CoreState) : Type 0 wher
   pub counted : new.totals ≡ old.totals
   pub told : lines old (Drain c) ≡ (codes "empty" ∷ decimal c ∷ []) ∷ []
 
--- the oldest copy is gone, and what waited behind it is left in its order; no other outbox changed
+-- the oldest copy is gone, and what waited after it is left in its order; no other outbox changed
 pub record IsWithout (old : CoreState) (seat : Seat) (rest : List Parcel) (new : CoreState) : Type 0 where
   pub left : outbox_at new seat.slot.0 ≡ rest
   pub others : (slot : ℕ) → (slot ≡ seat.slot.0 → ⊥) → outbox_at new slot ≡ outbox_at old slot
 
 -- the copy comes on the wire of the connection, as the payload of a frame of type 1
-pub record Tells (old : CoreState) (c : ℕ) (seat : Seat) (front : Parcel) (rest : List Parcel) (new : CoreState) : Type 0 where
+pub record Tells (old : CoreState) (c : ℕ) (seat : Seat) (front : Parcel) (rest : List Parcel)
+    (new : CoreState) : Type 0 where
   pub without : IsWithout old seat rest new
   pub counted : new.totals ≡ old.totals
   pub told : lines old (Drain c) ≡ (codes "wire" ∷ decimal c ∷ encode_lower (spelling_of 1 front.bytes) ∷ []) ∷ []
@@ -34,7 +34,7 @@ pub record Drops (old : CoreState) (c : ℕ) (seat : Seat) (rest : List Parcel) 
   pub counted : new.totals ≡ record old.totals { stale = up old.totals.stale }
   pub told : lines old (Drain c) ≡ (codes "stale" ∷ decimal c ∷ []) ∷ []
 
--- a copy is told where it is for the session of the seat, and else dropped
+-- a copy is sent where it is for the session of the seat, and else dropped
 abbrev pub Drains : CoreState → ℕ → Seat → List Parcel → CoreState → Type 0
 Drains old c seat [] new = FindsNone old c new
 Drains old c seat (front ∷ rest) new =

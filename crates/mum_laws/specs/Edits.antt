@@ -1,15 +1,12 @@
 -- What the verdicts of a run accept.
 use Rattle.std.specs.Prelude.{ℕ, List, [], ◌∷◌, Option, Some}
 use Rattle.std.specs.Option.{option_map}
-use Rattle.mum_state.specs.After.{led_to}
-use Rattle.mum_state.specs.declared.edit.Edit.{Edit}
-use Rattle.mum_state.specs.declared.verdict.Verdict.{Verdict}
-use Rattle.mum_state.specs.declared.verdict.Verdict.TheVariants.{Accepted}
 use Rattle.mum_record.specs.declared.step.Step.{Step}
-use Rattle.mum_record.specs.declared.step.Step.TheVariants as steps
+use Rattle.mum_state.specs.After.{led_to}
+use Rattle.mum_state.specs.declared.{edit.Edit.Edit, verdict.Verdict.Verdict, verdict.Verdict.TheVariants.Accepted}
 use Rattle.mum_session.specs.Verdict.{verdict}
-use Rattle.mum_core.specs.Connection.{next_command, session_of}
-use Rattle.mum_core.specs.Core.{CoreState, connection_at}
+use Rattle.mum_core.specs.{Connection.next_command, Connection.session_of, Core.CoreState, Core.connection_at}
+use Rattle.mum_record.specs.declared.step.Step.TheVariants as steps
 
 -- the edit of a verdict that accepts
 abbrev pub accepted_by : Option Verdict → List Edit

@@ -1,18 +1,16 @@
 -- An exercise of which each step is taken, allowed or not.
 use Rattle.std.specs.Prelude.{◌≡◌, ℕ, zero, suc, List, [], ◌∷◌, ◌++◌, None, fold, length, map}
 use Rattle.std.specs.List.{flat_map}
-use Rattle.mum_notify.specs.declared.notice.Notice.{Notice}
 use Rattle.mum_record.specs.declared.step.Step.{Step}
 use Rattle.mum_record.specs.declared.step.Step.TheVariants.{Open, Frame, Edit, Publish, Tell, Look, Offer, Post, Drain, Collect, End}
-use Rattle.mum_core.specs.Core.{CoreState, posts_at, worker_at}
-use Rattle.mum_core.specs.Step.{does}
+use Rattle.mum_notify.specs.declared.notice.Notice.{Notice}
+use Rattle.mum_core.specs.{Core.CoreState, Core.posts_at, Core.worker_at, Step.does}
 use Rattle.mum_core.specs.declared.worker.Outgoing.{Outgoing}
 use Rattle.mum_exercise.specs.Acts.{aiming, channel_frame, entering, linking, listening, login_frame, self_muting, target_frame, user_frame, voice_frame}
 use Rattle.mum_exercise.specs.Draws.{drawn_round, seeded}
 use Rattle.mum_exercise.specs.Exercise.{CourseValue, Progress, begun, counted, decided, note, worker_of}
-use Rattle.mum_exercise.specs.declared.draws.Act.{Act}
+use Rattle.mum_exercise.specs.declared.draws.{Act.Act, TheConstants.USERS}
 use Rattle.mum_exercise.specs.declared.draws.Act.TheVariants.{Talk, Enter, Link, SetSelfMute, Listen, Aim}
-use Rattle.mum_exercise.specs.declared.draws.TheConstants.{USERS}
 
 -- a step is taken, whatever the core says of it
 abbrev pub with_step : CourseValue → Step → CourseValue
@@ -21,7 +19,7 @@ with_step course step = record { core = does course.core step; steps = course.st
 abbrev pub with_steps : CourseValue → List Step → CourseValue
 with_steps course steps = fold with_step course steps
 
--- what was decided of a command is counted and told, and each notice of it is posted and collected
+-- what was decided of a command is counted and sent, and each notice of it is posted and collected
 abbrev pub answered : ℕ → CourseValue → CourseValue
 answered c course =
     let mark = decided course.core c in
@@ -60,7 +58,7 @@ progress seed (suc n) =
     let drawn = drawn_round before.draws in
     record { course = acted (suc n) drawn.0.connection drawn.0.act before.course; draws = drawn.1 }
 
--- the course of an exercise of so many rounds, to the end of its recording
+-- the course of an exercise of n rounds, to the end of its recording
 unfoldable pub exercised_whole : ℕ → ℕ → CourseValue
 exercised_whole seed rounds = with_step (progress seed rounds).course End
 

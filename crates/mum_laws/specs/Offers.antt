@@ -1,7 +1,6 @@
 -- What an offer makes of the outbox of its slot.
 use Rattle.std.specs.Prelude.{◌≡◌, ◌<◌, ◌⊎◌, ℕ, Bool, List, [], ◌∷◌, ◌++◌, codes, decimal, filter, length, nat_lt, not, take}
-use Rattle.mum_record.specs.declared.step.Step.{Step}
-use Rattle.mum_record.specs.declared.step.Step.TheVariants.{Offer}
+use Rattle.mum_record.specs.declared.step.Step.{Step, TheVariants.Offer}
 use Rattle.mum_core.specs.Core.{CoreState, outbox_at, up, worker_at}
 use Rattle.mum_core.specs.Step.{lines}
 use Rattle.mum_core.specs.declared.worker.Outgoing.{Outgoing}

@@ -5,13 +5,11 @@ use Rattle.mum_base.specs.declared.number.SessionId.{SessionId}
 use Rattle.mum_frame.specs.Frame.{kind_of, payload_of}
 use Rattle.mum_voice.specs.Packet.{Parts, packet}
 use Rattle.mum_voice.specs.declared.fault.BadVoice.{BadVoice}
-use Rattle.mum_record.specs.declared.step.Step.{Step}
-use Rattle.mum_record.specs.declared.step.Step.TheVariants.{Frame, Look}
-use Rattle.mum_core.specs.Core.{CoreState, connection_at, worker_at}
-use Rattle.mum_core.specs.Worker.{HeldPacket}
+use Rattle.mum_record.specs.declared.step.Step.{Step, TheVariants.Frame, TheVariants.Look}
+use Rattle.mum_core.specs.{Core.CoreState, Core.connection_at, Core.worker_at, Worker.HeldPacket}
 use Rattle.mum_core.specs.declared.connection.Connection.{Connection}
 
--- the session that a connection was told, unless it was told that its login is rejected
+-- the session that a connection was sent, unless it was notified that its login is rejected
 abbrev pub speaker_of : Connection → Option SessionId
 speaker_of connection = if connection.rejected then None else option_map (λ seat. seat.session) connection.seat
 

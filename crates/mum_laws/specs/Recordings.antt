@@ -2,20 +2,18 @@
 use Rattle.std.specs.Prelude.{◌≡◌, ◌<◌, ◌≤◌, ◌+◌, ◌++◌, ◌⊎◌, ℕ, Bool, true, false, List, [], ◌∷◌, Option, IfSome, None, Some, length, map}
 use Rattle.std.specs.List.{AllByRecursion, slice_split}
 use Rattle.hex.specs.Hex.{IsBytes}
-use Rattle.mum_record.specs.Grammar.{IsLineOf, IsRecordable, line_of}
-use Rattle.mum_record.specs.Head.{AreLimits, first_step_line, head_lines, recording_line, version_with}
-use Rattle.mum_record.specs.Journal.{ended_lines}
+use Rattle.mum_record.specs.{Grammar.IsLineOf, Grammar.IsRecordable, Grammar.line_of, Journal.ended_lines}
 use Rattle.mum_record.specs.Lines.{is_line_feed}
+use Rattle.mum_record.specs.Head.{AreLimits, first_step_line, head_lines, recording_line, version_with}
 use Rattle.mum_record.specs.declared.step.Step.{Step}
-use Rattle.mum_record.specs.declared.step.Step.TheVariants as steps
-use Rattle.mum_core.specs.Core.{CoreState, start}
-use Rattle.mum_core.specs.Laws.{IsRun, gathered, ran}
-use Rattle.mum_core.specs.Line.{text_of}
-use Rattle.mum_core.specs.Step.{illegal, lines}
 use Rattle.mum_opening.specs.Opening.{document_fault, opening}
+use Rattle.mum_core.specs.{Core.CoreState, Core.start, Laws.IsRun, Laws.gathered, Laws.ran, Line.text_of}
+use Rattle.mum_core.specs.Step.{illegal, lines}
 use Rattle.mum_server.specs.Replay.{Outcome}
-use Rattle.mum_server.specs.declared.{end.End.End, end.End.TheVariants.Finished, end.End.TheVariants.Faulty, end.LineFault.LineFault}
+use Rattle.mum_server.specs.declared.end.End.{End, TheVariants.Finished, TheVariants.Faulty}
+use Rattle.mum_server.specs.declared.end.LineFault.{LineFault}
 use Rattle.mum_server.specs.declared.end.LineFault.TheVariants.{TooLong, BadRecording, BadConfig, IllegalStep}
+use Rattle.mum_record.specs.declared.step.Step.TheVariants as steps
 
 -- ---- the steps
 
@@ -29,7 +27,7 @@ is_over [] = false
 is_over (step ∷ []) = is_end step
 is_over (step ∷ next ∷ more) = is_over (next ∷ more)
 
--- no step is behind the one that ends the recording
+-- no step is after the one that ends the recording
 abbrev pub NoneIsBehindTheEnd : List Step → Type 0
 NoneIsBehindTheEnd [] = Unit {0}
 NoneIsBehindTheEnd (step ∷ []) = Unit {0}
@@ -60,15 +58,16 @@ pub record SaysForbidden (core : CoreState) (piece : List ℕ) (more : List (Lis
   pub ended : more ≡ [] → ⊥
   pub numbers : illegal core step ≡ Some (given, against)
 
--- why a run stops at the piece of the input that is behind its steps, where so many bytes come before
+-- why a run stops at the piece of the input that is after its steps, where n bytes come before
 abbrev pub Stops : ℕ → CoreState → Bool → List ℕ → List (List ℕ) → LineFault → Type 0
 Stops before core over piece more TooLong = IsLong before piece more
 Stops before core true piece more BadRecording = IsShort before piece more × ((piece ≡ []) × (more ≡ []) → ⊥)
 Stops before core false piece more BadRecording = IsShort before piece more × SaysNoStep piece more
-Stops before core false piece more (IllegalStep given against) = IsShort before piece more × SaysForbidden core piece more given against
+Stops before core false piece more (IllegalStep given against) =
+    IsShort before piece more × SaysForbidden core piece more given against
 Stops before core over piece more other = ⊥
 
--- how a run ends behind its steps: at line n of the input, unless it is finished
+-- how a run ends after its steps: at line n of the input, unless it is finished
 abbrev pub EndsAt : ℕ → ℕ → CoreState → Bool → List (List ℕ) → End → Type 0
 EndsAt before n core over [] end = ⊥
 EndsAt before n core over (piece ∷ more) Finished = (over ≡ true) × (piece ≡ []) × (more ≡ [])
@@ -77,7 +76,7 @@ EndsAt before n core over (piece ∷ more) other = ⊥
 
 -- ---- a run
 
--- the lines of steps, and then how the run ends: from line n on, where so many bytes come before
+-- the lines of steps, and then how the run ends: from line n on, where m bytes come before
 pub record IsRunFrom (before n : ℕ) (first : CoreState) (pieces : List (List ℕ)) (outcome : Outcome) : Type 0 where
   pub steps : List Step
   pub behind : List (List ℕ)
@@ -89,7 +88,8 @@ pub record IsRunFrom (before n : ℕ) (first : CoreState) (pieces : List (List �
   pub last : NoneIsBehindTheEnd steps
   -- the transcript is their lines, in order
   pub transcript : outcome.text ≡ text_of (gathered lines first steps)
-  pub ending : EndsAt (before + length (ended_lines (map line_of steps))) (n + length steps) (ran first steps) (is_over steps) behind outcome.ending
+  pub ending : EndsAt (before + length (ended_lines (map line_of steps))) (n + length steps) (ran first steps)
+      (is_over steps) behind outcome.ending
 
 -- ---- a recording
 
@@ -101,13 +101,14 @@ pub record IsHead (limits : Option (ℕ × ℕ)) (workers : ℕ) (document : Lis
   pub bytes : IsBytes document
   pub sound : document_fault document ≡ None
 
--- the run behind a head
+-- the run after a head
 abbrev pub IsRunBehind : Option (ℕ × ℕ) → ℕ → List ℕ → List (List ℕ) → Outcome → Type 0
 IsRunBehind limits workers document pieces outcome =
-    IsRunFrom (length (ended_lines (head_lines recording_line workers limits document))) (first_step_line (version_with limits))
+    IsRunFrom (length (ended_lines (head_lines recording_line workers limits document)))
+    (first_step_line (version_with limits))
     (start (version_with limits) (opening limits document) workers) pieces outcome
 
--- an input begins with a head, and the outcome is of the run behind it
+-- an input begins with a head, and the outcome is of the run after it
 pub record IsTranscript (bytes : List ℕ) (outcome : Outcome) : Type 0 where
   pub limits : Option (ℕ × ℕ)
   pub workers : ℕ
@@ -125,6 +126,6 @@ IsFaultOfHead (Faulty n BadRecording) = n ≤ 4
 IsFaultOfHead (Faulty n (BadConfig code key)) = n ≤ 4
 IsFaultOfHead others = ⊥
 
--- nothing is told, and a line of the head is at fault
+-- nothing is reported, and a line of the head is at fault
 abbrev pub StopsEarly : Outcome → Type 0
 StopsEarly outcome = (outcome.text ≡ []) × IsFaultOfHead outcome.ending

@@ -11,7 +11,7 @@ ghost use Rattle.mum_core.specs.Step.{does, illegal};
 ghost use Rattle.mum_core.specs.declared.connection.Seat.{Seat};
 ghost use Rattle.mum_laws.specs.Drains.{Drains, dropped};
 
-/// A drain takes the oldest copy out of the outbox of its connection's slot. It tells that copy exactly where this is
+/// A drain takes the oldest copy out of the outbox of its connection's slot. It sends that copy exactly where this is
 /// for the session of the connection; else it drops it, and counts it as stale.
 pub fn drains_tell_their_own()
     ensures { (core : CoreState) (c : ℕ) → illegal core (Drain c) ≡ None →
@@ -20,7 +20,7 @@ pub fn drains_tell_their_own()
 {}
 
 /// `stale` counts exactly the copies and notices that were taken out of a slot by a connection of another session, until
-/// the count stands at the end of its type.
+/// the count is at the end of its type.
 pub fn strangers_are_counted()
     ensures { (version : Version) (opening : StateValue) (workers : ℕ) (steps : List Step) →
         (ran (start version opening workers) steps).totals.stale

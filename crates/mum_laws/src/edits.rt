@@ -16,7 +16,7 @@ ghost use Rattle.mum_core.specs.Step.{illegal, lines};
 ghost use Rattle.mum_laws.specs.Edits.{accepted, verdict_on};
 
 /// A run accepts, in order, the edits that its verdicts accept, and no other. Each verdict is at the state to which the
-/// edits before it lead, and is what its line tells.
+/// edits before it lead, and is what its line reports.
 pub fn verdicts_are_the_list()
     ensures list { (core : CoreState) (steps : List Step) →
         (ran core steps).accepted ≡ core.accepted ++ gathered accepted core steps }

@@ -24,7 +24,7 @@ pub fn offers_go_to_the_back()
 {}
 
 /// `copies` counts exactly the copies that were put into an outbox, and `full` exactly those that found 128 there, until
-/// a count stands at the end of its type.
+/// a count is at the end of its type.
 pub fn offers_are_counted()
     ensures copies { (version : Version) (opening : StateValue) (workers : ℕ) (steps : List Step) →
         (ran (start version opening workers) steps).totals.copies

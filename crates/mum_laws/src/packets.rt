@@ -32,7 +32,7 @@ pub fn connections_have_workers()
         (connection_at core c).worker < workers }
 {}
 
-/// A connection that was told its session was never told that its login is rejected.
+/// A connection that was sent its session was never notified that its login is rejected.
 pub fn sessions_are_not_rejected()
     ensures { (version : Version) (opening : StateValue) (workers c : ℕ) (steps : List Step) (seat : Seat) →
         let core = ran (start version opening workers) steps in

@@ -14,7 +14,7 @@ ghost use Rattle.mum_laws.specs.Recordings.{IsHead, IsRunBehind, IsTranscript, S
 pub fn transcripts_are_runs()
     // Of every input: the steps of its run, or it stops at a line of its head.
     ensures every { (bytes : List ℕ) → StopsEarly (replayed bytes) ⊎ IsTranscript bytes (replayed bytes) }
-    // Behind a head whose lines are not too long it is always a run.
+    // After a head whose lines are not too long it is always a run.
     ensures behind_a_head { (limits : Option (ℕ × ℕ)) (workers : ℕ) (document bytes : List ℕ)
         (pieces : List (List ℕ)) → IsHead limits workers document → (pieces ≡ [] → ⊥) →
         AllByRecursion (λ line. length line ≤ 131200) (head_lines recording_line workers limits document) →

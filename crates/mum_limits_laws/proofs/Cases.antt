@@ -1,15 +1,5 @@
 -- Tables of reasons and limits as chains of tests.
-use Rattle.std.proofs.Common.{◌≡◌, suc, ◌&&◌, ◌||◌, not, Bool, true, false, cond, List, [], ◌∷◌, ◌++◌, map, Option, Some, None, refl, sym, ap, subst, ◌∙◌, arith}
-use Rattle.std.specs.Prelude.{find, is_none, is_some, ◌≢◌}
-use Rattle.std.specs.List.{All, Contains, list_all, list_any}
-use Rattle.std.specs.Option.{option_map}
-use Rattle.std.proofs.lemmas.Bool.{false≢true}
-use Rattle.std.proofs.lemmas.Option.{none-some}
-use Rattle.mum_rules_tree.specs.Decision.{Case, case_of, first_standing}
-use Rattle.mum_rules_tree.specs.Laws.{IsFirstStanding, NoneStands}
-use Rattle.mum_rules_tree.proofs.Cleared.{AllOff}
-use Rattle.mum_part_laws.specs.Firsts.{IsFirst, NamesFirst}
-use Rattle.mum_part_laws.proofs.Chains.{Tells, TellsEach, chain, chain_names, tells_any}
+use Rattle.mum_limits_laws.proofs.Common.{◌≡◌, suc, ◌&&◌, ◌||◌, not, Bool, true, false, cond, List, [], ◌∷◌, ◌++◌, map, Option, Some, None, refl, sym, ap, subst, ◌∙◌, arith, find, is_none, is_some, ◌≢◌, All, Contains, list_all, list_any, option_map, false≢true, none-some, Case, case_of, first_standing, IsFirstStanding, NoneStands, AllOff, IsFirst, NamesFirst, Tells, TellsEach, chain, chain_names, tells_any}
 
 -- the rows of a table, each with its test
 abbrev pub tests : {Code : Type 0} → List (Case Code) → List (Code × Bool)
@@ -24,7 +14,7 @@ first_chain {Code} (one ∷ cases) = step one.stands (first_chain cases)
     step true rest = refl
     step false rest = rest
 
--- where each test says whether its row applies, the first row that stands is the first that applies
+-- where each test says whether its row applies, the first row that holds is the first that applies
 pub table_names : {Code : Type 0} (Applies : Code → Type 0) (cases : List (Case Code)) → TellsEach Applies (tests cases) → NamesFirst Applies (map (λ one. one.0) (tests cases)) (first_standing cases)
 table_names Applies cases tells = subst (NamesFirst Applies (map (λ one. one.0) (tests cases))) (sym (first_chain cases)) (chain_names Applies (tests cases) tells)
 

@@ -1,55 +1,7 @@
 -- What is full takes nothing more.
-use Rattle.std.proofs.Common.{◌≡◌, ◌≢◌, ◌⊎◌, ◌≤◌, ◌<◌, ◌+◌, ◌==◌, ◌&&◌, ◌||◌, ℕ, not, Bool, true, false, cond, List, [], ◌∷◌, map, length, Option, Some, None, inl, inr, refl, sym, ap, ◌∙◌, subst, arith}
-use Rattle.std.specs.Prelude.{nat_le, nat_lt, sum_by, unwrap_or}
-use Rattle.std.specs.List.{count_by, filter, list_any}
-use Rattle.std.specs.Option.{option_map, option_map_or}
-use Rattle.std.proofs.lemmas.Bool.{eq-eqb, false≢true, ne_eqb, or_parts}
-use Rattle.std.proofs.lemmas.Bool.Decides.{nat_tests}
-use Rattle.std.proofs.lemmas.List.{length-map}
-use Rattle.mum_base.specs.declared.number.ChannelId.{ChannelId}
-use Rattle.mum_base.specs.declared.number.SessionId.{SessionId}
-use Rattle.mum_base.specs.declared.number.TheConstants.ChannelId.{ROOT}
-use Rattle.mum_policy.specs.declared.policy.AclEntry.{AclEntry}
-use Rattle.mum_policy.specs.declared.policy.ChannelPolicy.{ChannelPolicy}
-use Rattle.mum_policy.specs.Limits.{is_large_group, is_long_whom}
-use Rattle.mum_tree.specs.Change.{pairs_with_all, pairs_without_all}
-use Rattle.mum_tree.specs.Refusals.{is_full}
-use Rattle.mum_tree.specs.Rows.{path}
-use Rattle.mum_tree.specs.State.{Pair, is_pair, pairs_with, starts_at, with_pair}
-use Rattle.mum_tree.specs.declared.channel.Row.{Row}
-use Rattle.mum_tree.proofs.Joined.{count_with}
-use Rattle.mum_users.specs.declared.listening.ListenerPair.{ListenerPair}
-use Rattle.mum_users.specs.declared.target.TargetItem.{TargetItem}
-use Rattle.mum_users.specs.Edit.{is_crowded}
-use Rattle.mum_users.specs.Sessions.{session_of}
-use Rattle.mum_users.specs.State.{is_in, is_of_channel, is_of_session}
-use Rattle.mum_users.proofs.PairCounts.{count-put_new}
-use Rattle.mum_users.specs.declared.user.User.{User}
-use Rattle.mum_state.specs.Fits.{fits}
-use Rattle.mum_state.specs.Proper.{IsProper}
-use Rattle.mum_state.specs.Set.{set_by}
-use Rattle.mum_state.specs.declared.edit.Edit.{Edit}
-use Rattle.mum_state.specs.declared.verdict.Verdict.TheVariants.{Accepted}
-use Rattle.mum_state.proofs.Keeping.{fit_proper}
-use Rattle.mum_rules_tree.specs.Asked.{Command, channel_or_root, given_unless, command_of, others}
-use Rattle.mum_rules_tree.specs.Decision.{FitsWhereAccepted, first_lack, first_standing}
-use Rattle.mum_rules_tree.specs.Laws.{needs_of}
-use Rattle.mum_rules_tree.specs.Limits.{limits}
-use Rattle.mum_rules_tree.specs.Outcome.{edit_to_change, outcome}
-use Rattle.mum_rules_tree.specs.Policy.{entry_asked, group_asked, is_inherited, policy_asked}
-use Rattle.mum_rules_tree.specs.Reasons.{reasons}
-use Rattle.mum_rules_tree.specs.declared.message.TreeMessage.TheVariants.{Acl, State}
-use Rattle.mum_rules_tree.proofs.Accepted.{accepted_fits}
-use Rattle.mum_rules_tree.proofs.Cleared.{AllOff, all_off}
-use Rattle.mum_rules_tree.proofs.Complete.{outcome_at}
-use Rattle.mum_rules_tree.proofs.Firsts.{accepts_where_nothing_stands_lem}
-use Rattle.mum_rules_user.specs.Asked.{channel_of, channels, item_asked, new_channel, session_or, target_asked}
-use Rattle.mum_rules_user.specs.Limits.{limits as user_limits, pairs_with as user_pairs_with, room_of, takes_nobody}
-use Rattle.mum_rules_user.specs.Asked.{command_of as user_command_of}
-use Rattle.mum_rules_user.specs.declared.message.UserMessage.TheVariants.{Target, User as Changes}
-use Rattle.mum_rules_user.proofs.Firsts.{clear}
+use Rattle.mum_limits_laws.proofs.Common.{◌≡◌, ◌≢◌, ◌⊎◌, ◌≤◌, ◌<◌, ◌+◌, ◌==◌, ◌&&◌, ◌||◌, ℕ, not, Bool, true, false, cond, List, [], ◌∷◌, map, length, Option, Some, None, inl, inr, refl, sym, ap, ◌∙◌, subst, arith, nat_le, nat_lt, sum_by, unwrap_or, count_by, filter, list_any, option_map, option_map_or, eq-eqb, false≢true, ne_eqb, or_parts, nat_tests, length-map, ChannelId, SessionId, ROOT, AclEntry, ChannelPolicy, is_large_group, is_long_whom, pairs_with_all, pairs_without_all, is_full, path, Pair, is_pair, starts_at, with_pair, Row, count_with, ListenerPair, TargetItem, is_crowded, session_of, is_in, is_of_channel, is_of_session, count-put_new, User, fits, IsProper, set_by, Edit, Accepted, fit_proper, Command, channel_or_root, given_unless, command_of, others, FitsWhereAccepted, first_lack, first_standing, needs_of, limits, edit_to_change, outcome, entry_asked, group_asked, is_inherited, policy_asked, reasons, Acl, State, accepted_fits, AllOff, all_off, outcome_at, accepts_where_nothing_stands_lem, channel_of, channels, item_asked, new_channel, session_or, target_asked, user_limits, user_pairs_with, room_of, takes_nobody, user_command_of, Target, Changes, clear, ChannelsTooManyAreRefused, FullChannelsAreNotEntered, ListenersTooManyAreRefused, PoliciesTooLargeAreRefused, SixtyFifthLinksAreRefused, TargetsTooLargeAreRefused}
+use Rattle.mum_tree.specs.State.{pairs_with}
 use Rattle.mum_limits_laws.specs.Denials.{channel}
-use Rattle.mum_limits_laws.specs.Full.{ChannelsTooManyAreRefused, FullChannelsAreNotEntered, ListenersTooManyAreRefused, PoliciesTooLargeAreRefused, SixtyFifthLinksAreRefused, TargetsTooLargeAreRefused}
 use Rattle.mum_limits_laws.proofs.Cases.{each_off}
 
 -- ---- a channel that is full

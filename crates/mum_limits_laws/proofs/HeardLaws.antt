@@ -1,27 +1,7 @@
 -- A message on channels is ignored for the first reason that applies.
-use Rattle.std.proofs.Common.{◌≡◌, ◌⊎◌, ℕ, ◌&&◌, not, Bool, List, [], ◌∷◌, length, Option, Some, None, inl, inr, refl, sym, ◌∙◌, subst}
-use Rattle.std.specs.Prelude.{is_some, ◌^◌}
-use Rattle.std.specs.List.{Contains, list_all}
-use Rattle.std.specs.Option.{option_or}
-use Rattle.std.proofs.lemmas.Bool.{false≢true}
-use Rattle.std.proofs.lemmas.Option.{none-some, same_Some}
-use Rattle.mum_base.specs.Codes.{reason_code}
-use Rattle.mum_base.specs.declared.number.SessionId.{SessionId}
-use Rattle.mum_base.specs.declared.outcome.Reason.{Reason}
-use Rattle.mum_base.specs.declared.outcome.Reason.TheVariants.{EmptyText, Gone, Malformed, NotLoggedIn, NotRead, NotThere, OfAnother, TooLong}
-use Rattle.mum_tree.specs.Rows.{row_of}
-use Rattle.mum_users.specs.Sessions.{session_of}
-use Rattle.mum_state.specs.Fits.{holds_of_given}
-use Rattle.mum_state.specs.State.{StateValue}
-use Rattle.mum_rules_tree.specs.Asked.{is_named_there, is_number_there, names_there, payload_of}
-use Rattle.mum_rules_tree.specs.Decision.{first_standing}
-use Rattle.mum_rules_tree.specs.Reasons.{is_gone, reasons, takes_no_edits}
-use Rattle.mum_rules_tree.specs.declared.message.TreeMessage.{TreeMessage}
-use Rattle.mum_rules_tree.specs.declared.message.TreeMessage.TheVariants.{Acl, Remove, State}
-use Rattle.mum_rules_tree.proofs.Complete.{ignores_for_first_reason_lem}
-use Rattle.mum_part_laws.specs.Firsts.{NamesFirst}
-use Rattle.mum_part_laws.proofs.Chains.{Tells, tells_either, tells_le, tells_lt, tells_or, tells_so}
-use Rattle.mum_limits_laws.specs.Heard.{AgainstHearing, IsNobody, NamesNobody, TreeMessagesAreIgnoredForTheFirst, number}
+use Rattle.mum_limits_laws.proofs.Common.{◌≡◌, ◌⊎◌, ℕ, ◌&&◌, not, Bool, List, [], ◌∷◌, length, Option, Some, None, inl, inr, refl, sym, ◌∙◌, subst, is_some, ◌^◌, Contains, list_all, option_or, false≢true, none-some, same_Some, reason_code, SessionId, Reason, EmptyText, Gone, Malformed, NotLoggedIn, NotRead, NotThere, OfAnother, row_of, session_of, holds_of_given, StateValue, is_named_there, is_number_there, names_there, payload_of, first_standing, is_gone, reasons, takes_no_edits, TreeMessage, Acl, Remove, State, ignores_for_first_reason_lem, NamesFirst, Tells, tells_either, tells_le, tells_lt, tells_or, tells_so, AgainstHearing, IsNobody, NamesNobody, TreeMessagesAreIgnoredForTheFirst}
+use Rattle.mum_base.specs.declared.outcome.Reason.TheVariants.{TooLong}
+use Rattle.mum_limits_laws.specs.Heard.{number}
 use Rattle.mum_limits_laws.proofs.Cases.{first_is, table_names, tells_missing, tells_not_all}
 
 -- ---- whom a message names

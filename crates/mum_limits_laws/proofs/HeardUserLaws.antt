@@ -1,33 +1,11 @@
 -- A message on users is ignored for the first reason that applies.
-use Rattle.std.proofs.Common.{◌≡◌, ◌≢◌, ◌⊎◌, ℕ, ◌==◌, ◌&&◌, ◌||◌, not, Bool, false, List, [], ◌∷◌, length, Option, Some, None, inl, inr, refl, sym, ap, ◌∙◌, subst, arith}
-use Rattle.std.specs.Prelude.{is_none, is_some, unwrap_or, ◌^◌}
-use Rattle.std.specs.List.{Contains, list_all}
-use Rattle.std.specs.Option.{option_map_or}
-use Rattle.std.proofs.lemmas.Bool.{eq-eqb, false≢true, ne_eqb}
-use Rattle.std.proofs.lemmas.Option.{none-some, same_Some}
-use Rattle.mum_base.specs.declared.number.SessionId.{SessionId}
-use Rattle.mum_base.specs.declared.outcome.Reason.TheVariants.{EmptyText, Gone, NotLoggedIn, NotThere, OfAnother, TooLong}
-use Rattle.mum_msg_state.specs.declared.authenticate.Authenticate.{Authenticate}
-use Rattle.mum_msg_state.specs.declared.user_state.UserState.{UserState}
-use Rattle.mum_users.specs.Sessions.{session_of}
-use Rattle.mum_users.specs.State.{has_number}
-use Rattle.mum_state.specs.Fits.{holds_of_given}
-use Rattle.mum_state.specs.State.{StateValue}
-use Rattle.mum_state.proofs.Each.{some_found}
-use Rattle.mum_rules_tree.specs.Asked.{is_number_there}
-use Rattle.mum_rules_tree.specs.Decision.{first_standing}
-use Rattle.mum_rules_tree.specs.Reasons.{takes_no_edits}
-use Rattle.mum_rules_user.specs.Asked.{is_empty_text, is_here, is_oneself, names_there, payload_of, session_or, sets_own, sets_own_of_another}
-use Rattle.mum_rules_user.specs.Reasons.{is_gone_for, is_leave, is_login, reasons}
-use Rattle.mum_rules_user.specs.declared.message.UserMessage.{UserMessage}
-use Rattle.mum_rules_user.specs.declared.message.UserMessage.TheVariants.{Join, Kick, Leave, Query, Text, User}
-use Rattle.mum_rules_user.proofs.Complete.{ignores_for_first_reason_lem}
-use Rattle.mum_part_laws.specs.Firsts.{NamesFirst}
-use Rattle.mum_part_laws.proofs.Chains.{Tells, tells_and, tells_either, tells_eq, tells_le, tells_lt, tells_not, tells_or, tells_so}
-use Rattle.mum_limits_laws.specs.Heard.{IsNobody}
-use Rattle.mum_limits_laws.specs.HeardUsers.{AgainstHearing, GivesOwn, IsEmptyText, IsGone, IsNoSession, IsOfAnother, NamesNoUser, NamesNobody, UserMessagesAreIgnoredForTheFirst}
-use Rattle.mum_limits_laws.proofs.Cases.{first_is, some_given, table_names, tells_missing}
-use Rattle.mum_limits_laws.proofs.HeardLaws.{absent, listed, nobody, same_number}
+use Rattle.mum_limits_laws.proofs.Common.{◌≡◌, ◌≢◌, ◌⊎◌, ℕ, ◌==◌, ◌&&◌, ◌||◌, not, Bool, false, List, [], ◌∷◌, length, Option, Some, None, inl, inr, refl, sym, ap, ◌∙◌, subst, arith, is_none, is_some, unwrap_or, ◌^◌, Contains, list_all, option_map_or, eq-eqb, false≢true, ne_eqb, none-some, same_Some, SessionId, EmptyText, Gone, NotLoggedIn, NotThere, OfAnother, Authenticate, UserState, session_of, has_number, holds_of_given, StateValue, some_found, is_number_there, first_standing, takes_no_edits, is_empty_text, is_here, is_oneself, session_or, sets_own, sets_own_of_another, is_gone_for, is_leave, is_login, UserMessage, Join, Kick, Leave, Query, Text, NamesFirst, Tells, tells_and, tells_either, tells_eq, tells_le, tells_lt, tells_not, tells_or, tells_so, IsNobody, GivesOwn, IsEmptyText, IsGone, IsNoSession, IsOfAnother, NamesNoUser, UserMessagesAreIgnoredForTheFirst}
+use Rattle.mum_base.specs.declared.outcome.Reason.TheVariants.{TooLong}
+use Rattle.mum_rules_user.proofs.Public.{ignores_for_first_reason_lem}
+use Rattle.mum_rules_user.specs.{Asked.names_there, Asked.payload_of, Reasons.reasons}
+use Rattle.mum_rules_user.specs.declared.message.UserMessage.TheVariants.{User}
+use Rattle.mum_limits_laws.specs.HeardUsers.{AgainstHearing, NamesNobody}
+use Rattle.mum_limits_laws.proofs.{Cases.first_is, Cases.some_given, Cases.table_names, Cases.tells_missing, HeardLaws.absent, HeardLaws.listed, HeardLaws.nobody, HeardLaws.same_number}
 
 -- ---- who sends it
 

@@ -1,3 +1,4 @@
+mod Common
 mod WithinLaws
 mod Cases
 mod FullLaws

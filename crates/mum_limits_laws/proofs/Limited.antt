@@ -1,22 +1,5 @@
 -- A refusal has the number of the first limit that applies.
-use Rattle.std.proofs.Common.{◌≡◌, ℕ, ◌<◌, ◌||◌, not, Bool, true, false, cond, List, [], ◌∷◌, map, length, Option, Some, None, refl, sym, ap, subst, ◌∙◌, arith}
-use Rattle.std.specs.Prelude.{find, is_none, nat_lt, unwrap_or}
-use Rattle.std.specs.List.{list_any}
-use Rattle.std.specs.Option.{option_map, option_map_or}
-use Rattle.std.proofs.lemmas.Bool.{false≢true}
-use Rattle.mum_base.specs.Codes.{deny_code}
-use Rattle.mum_base.specs.declared.outcome.DenyType.{DenyType}
-use Rattle.mum_base.specs.declared.outcome.Reason.{Reason}
-use Rattle.mum_base.specs.declared.name.NameFault.TheVariants.{TooLong}
-use Rattle.mum_state.specs.Proper.{is_text}
-use Rattle.mum_state.specs.declared.verdict.Verdict.{Verdict}
-use Rattle.mum_state.specs.declared.verdict.Verdict.TheVariants.{Accepted, Answer, Ignored, Lacks, Refused, Rejected}
-use Rattle.mum_rules_tree.specs.Decision.{Case, case_of, first_standing}
-use Rattle.mum_rules_tree.specs.declared.needs.Lack.{Lack}
-use Rattle.mum_rules_tree.proofs.Firsts.{told}
-use Rattle.mum_part_laws.specs.Firsts.{NamesFirst}
-use Rattle.mum_part_laws.proofs.Chains.{Tells, TellsEach, chain, chain_names, tells_lt}
-use Rattle.mum_limits_laws.specs.Denials.{IsRefusedFor}
+use Rattle.mum_limits_laws.proofs.Common.{◌≡◌, ℕ, ◌<◌, ◌||◌, not, Bool, true, false, cond, List, [], ◌∷◌, map, length, Option, Some, None, refl, sym, ap, subst, ◌∙◌, arith, find, is_none, nat_lt, unwrap_or, list_any, option_map, option_map_or, false≢true, deny_code, DenyType, Reason, TooLong, is_text, Verdict, Accepted, Answer, Ignored, Lacks, Refused, Rejected, Case, case_of, first_standing, Lack, told, NamesFirst, Tells, TellsEach, chain, chain_names, tells_lt, IsRefusedFor}
 use Rattle.mum_limits_laws.proofs.Wanted.{IsOutcome}
 
 -- a table whose rows are these limits, each with its test

@@ -1,29 +1,8 @@
 -- A login is rejected for the first cause that applies.
-use Rattle.std.proofs.Common.{◌≡◌, ◌≢◌, ◌<◌, ℕ, not, List, length, Option, Some, None, refl, sym, ◌∙◌, subst}
-use Rattle.std.specs.Prelude.{nat_lt, ◌-◌, ◌^◌}
-use Rattle.std.specs.Str.{bytes_eq}
-use Rattle.std.proofs.lemmas.Bool.{false≢true}
-use Rattle.std.proofs.lemmas.Option.{none-some, same_Some}
-use Rattle.std.proofs.lemmas.Slice.Eq.{bytes_eq-Decides}
-use Rattle.sha2.specs.Sha256.{sha256}
-use Rattle.mum_base.specs.Codes.{reject_code}
-use Rattle.mum_base.specs.declared.outcome.RejectType.{RejectType}
-use Rattle.mum_base.specs.declared.outcome.RejectType.TheVariants.{InvalidUsername, ServerFull, UsernameInUse, WrongServerPW, WrongUserPW, WrongVersion}
-use Rattle.mum_msg_state.specs.declared.authenticate.Authenticate.{Authenticate}
-use Rattle.mum_users.specs.Sessions.{is_full, is_used_up}
-use Rattle.mum_users.specs.State.{has_name}
-use Rattle.mum_users.specs.declared.user.User.{User}
-use Rattle.mum_state.specs.Proper.{is_name}
-use Rattle.mum_state.specs.State.{StateValue, account_named}
+use Rattle.mum_limits_laws.proofs.Common.{◌≡◌, ◌≢◌, ◌<◌, ℕ, not, List, length, Option, Some, None, refl, sym, ◌∙◌, subst, nat_lt, ◌-◌, ◌^◌, bytes_eq, false≢true, none-some, same_Some, bytes_eq-Decides, sha256, reject_code, RejectType, InvalidUsername, ServerFull, UsernameInUse, WrongServerPW, WrongUserPW, WrongVersion, Authenticate, is_used_up, has_name, User, is_name, StateValue, account_named, first_standing, NoneStands, is_digest_of, is_no_guest, is_not_the_owner, is_old, limits_of_login, Join, logs_in_where_nothing_stands_lem, rejects_for_first_limit_lem, NamesFirst, Tells, tells_any, tells_le, tells_lt, tells_not, tells_off, tells_or, tells_so, AgainstLogin, NobodyComesAgainstOne, RejectionsNameTheFirst, name_in, order, password_in}
+use Rattle.mum_users.specs.Sessions.{is_full}
 use Rattle.mum_state.specs.declared.account.Account.{Account}
-use Rattle.mum_rules_tree.specs.Decision.{first_standing}
-use Rattle.mum_rules_tree.specs.Laws.{NoneStands}
-use Rattle.mum_rules_user.specs.Login.{is_digest_of, is_no_guest, is_not_the_owner, is_old, limits_of_login}
-use Rattle.mum_rules_user.specs.declared.message.UserMessage.TheVariants.{Join}
-use Rattle.mum_rules_user.proofs.Firsts.{logs_in_where_nothing_stands_lem, rejects_for_first_limit_lem}
-use Rattle.mum_part_laws.specs.Firsts.{NamesFirst}
-use Rattle.mum_part_laws.proofs.Chains.{Tells, tells_any, tells_le, tells_lt, tells_not, tells_off, tells_or, tells_so}
-use Rattle.mum_limits_laws.specs.Logins.{AgainstLogin, NobodyComesAgainstOne, RejectionsNameTheFirst, name_in, number, order, password_in}
+use Rattle.mum_limits_laws.specs.Logins.{number}
 use Rattle.mum_limits_laws.proofs.Cases.{first_is, none_applies, table_names}
 
 same_bytes : (xs ys : List ℕ) → Tells (bytes_eq xs ys) (xs ≡ ys)

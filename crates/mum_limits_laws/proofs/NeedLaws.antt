@@ -1,39 +1,6 @@
 -- A message on channels is denied for the first need that is not met.
-use Rattle.std.proofs.Common.{◌≡◌, ◌≢◌, ℕ, ◌==◌, ◌||◌, not, Bool, true, false, cond, List, [], ◌∷◌, ◌++◌, map, filter, length, Option, Some, None, refl, sym, ap, subst, ◌∙◌, arith}
-use Rattle.std.specs.Prelude.{is_some, unwrap_or}
-use Rattle.std.specs.List.{cons_option, filter_map, list_any}
-use Rattle.std.specs.Option.{option_map, option_map_or}
-use Rattle.std.proofs.lemmas.Bool.{false≢true, ne_eqb}
-use Rattle.std.proofs.lemmas.Option.{none-some, same_Some}
-use Rattle.mum_base.specs.declared.number.ChannelId.{ChannelId}
-use Rattle.mum_base.specs.declared.number.SessionId.{SessionId}
-use Rattle.mum_base.specs.declared.perm.Perm.{Perm}
-use Rattle.mum_base.specs.declared.perm.TheConstants.Perm.{LINK_CHANNEL, MAKE_CHANNEL, MAKE_TEMP_CHANNEL, WRITE}
-use Rattle.mum_msg_state.specs.declared.channel_state.ChannelState.{ChannelState}
-use Rattle.mum_policy.specs.declared.policy.ChannelPolicy.{ChannelPolicy}
-use Rattle.mum_policy.specs.Member.{Actor}
-use Rattle.mum_tree.specs.declared.channel.Row.{Row}
-use Rattle.mum_users.specs.Sessions.{session_of}
-use Rattle.mum_users.specs.declared.user.User.{User}
-use Rattle.mum_state.specs.Permissions.{actor_from}
-use Rattle.mum_state.specs.State.{StateValue, policy_of}
-use Rattle.mum_state.specs.declared.verdict.Verdict.TheVariants.{Answer, Ignored}
-use Rattle.mum_base.specs.Codes.{reason_code}
-use Rattle.mum_base.specs.declared.outcome.Reason.TheVariants.{NotThere}
-use Rattle.mum_rules_tree.specs.Asked.{Command, channel, command_of, describes, given_unless, is_other, is_query, is_to_be_temporary, linked_others, new_parent, others, parent_of_new}
-use Rattle.mum_rules_tree.specs.Decision.{Need, first_standing, is_met, is_open, need, way}
-use Rattle.mum_rules_tree.specs.Limits.{limits}
-use Rattle.mum_rules_tree.specs.Needs.{need_to_rule, needs, needs_to_link}
-use Rattle.mum_rules_tree.specs.Outcome.{answer_frame, outcome}
-use Rattle.mum_rules_tree.specs.Reasons.{reasons}
-use Rattle.mum_rules_tree.specs.Verdict.{actor_named, nobody, tree_verdict}
-use Rattle.mum_rules_tree.specs.declared.message.TreeMessage.{TreeMessage}
-use Rattle.mum_rules_tree.specs.declared.message.TreeMessage.TheVariants.{Acl, Remove, State}
-use Rattle.mum_part_laws.proofs.Chains.{Tells, tells_any, tells_eq, tells_not, tells_or}
-use Rattle.mum_limits_laws.specs.Denials.{IsDeniedFor, MayNot}
-use Rattle.mum_limits_laws.specs.ChannelNeeds.{ChangesAreDeniedForTheFirst, Describes, LacksToChange, LacksToMake, LacksToRemove, LacksToRule, Links, NewChannelsAreDeniedForTheFirst, PoliciesAreDeniedForTheFirst, RemovalsAreDeniedForTheFirst, TreeNeed, order_of_change, permission, place}
-use Rattle.mum_limits_laws.proofs.Cases.{some_given}
-use Rattle.mum_limits_laws.proofs.Wanted.{AreNamed, IsOutcome, denied_lem, elsewhere, lacks, one_way, two_ways, unless_so, unmet, where_moved, where_so}
+use Rattle.mum_limits_laws.proofs.Common.{◌≡◌, ◌≢◌, ℕ, ◌==◌, ◌||◌, not, Bool, true, false, cond, List, [], ◌∷◌, ◌++◌, map, filter, length, Option, Some, None, refl, sym, ap, subst, ◌∙◌, arith, is_some, unwrap_or, cons_option, filter_map, list_any, option_map, option_map_or, false≢true, ne_eqb, none-some, same_Some, ChannelId, SessionId, Perm, LINK_CHANNEL, MAKE_CHANNEL, MAKE_TEMP_CHANNEL, WRITE, ChannelState, ChannelPolicy, Actor, Row, session_of, User, actor_from, StateValue, policy_of, Answer, Ignored, reason_code, NotThere, Command, channel, command_of, describes, given_unless, is_other, is_query, is_to_be_temporary, linked_others, new_parent, others, parent_of_new, Need, first_standing, is_met, is_open, need, way, limits, need_to_rule, needs, needs_to_link, answer_frame, outcome, reasons, actor_named, nobody, tree_verdict, TreeMessage, Acl, Remove, State, Tells, tells_any, tells_eq, tells_not, tells_or, IsDeniedFor, MayNot, ChangesAreDeniedForTheFirst, Describes, LacksToChange, LacksToMake, LacksToRemove, LacksToRule, Links, NewChannelsAreDeniedForTheFirst, PoliciesAreDeniedForTheFirst, RemovalsAreDeniedForTheFirst, TreeNeed, order_of_change, permission, place}
+use Rattle.mum_limits_laws.proofs.{Cases.some_given, Wanted.AreNamed, Wanted.IsOutcome, Wanted.denied_lem, Wanted.elsewhere, Wanted.lacks, Wanted.one_way, Wanted.two_ways, Wanted.unless_so, Wanted.unmet, Wanted.where_moved, Wanted.where_so}
 
 -- ---- commands
 

@@ -1,47 +1,8 @@
 -- A message on users is denied for the first need that is not met.
-use Rattle.std.proofs.Common.{◌≡◌, ℕ, ◌-◌, ◌==◌, ◌||◌, not, Bool, true, false, cond, List, [], ◌∷◌, ◌++◌, map, filter, take, length, Option, Some, None, refl, sym, ap, subst, ◌∙◌}
-use Rattle.std.specs.Prelude.{is_some, unwrap_or}
-use Rattle.std.specs.List.{cons_option, filter_map}
-use Rattle.std.specs.Option.{option_map, option_map_or}
-use Rattle.std.proofs.lemmas.Bool.{false≢true}
-use Rattle.std.proofs.lemmas.List.{append-nil}
-use Rattle.std.proofs.lemmas.List.Elements.{filter_map-append}
-use Rattle.std.proofs.Math.Seq.{take-nil}
-use Rattle.std.proofs.lemmas.Option.{none-some, same_Some}
-use Rattle.mum_base.specs.Codes.{reason_code}
-use Rattle.mum_base.specs.declared.number.ChannelId.{ChannelId}
-use Rattle.mum_base.specs.declared.number.SessionId.{SessionId}
-use Rattle.mum_base.specs.declared.number.TheConstants.ChannelId.{ROOT}
-use Rattle.mum_base.specs.declared.outcome.Reason.TheVariants.{NotThere}
-use Rattle.mum_base.specs.declared.perm.Perm.{Perm}
-use Rattle.mum_base.specs.declared.perm.TheConstants.Perm.{BAN, ENTER, KICK, LISTEN, MOVE, MUTE_DEAFEN, TEXT_MESSAGE}
-use Rattle.mum_msg_state.specs.declared.user_remove.UserRemove.{UserRemove}
-use Rattle.mum_msg_state.specs.declared.user_state.UserState.{UserState}
-use Rattle.mum_policy.specs.Member.{Actor}
-use Rattle.mum_tree.specs.Rows.{row_of}
-use Rattle.mum_users.specs.Sessions.{session_of}
-use Rattle.mum_users.specs.declared.user.User.{User}
-use Rattle.mum_state.specs.Permissions.{actor_from, actor_with, granted_where_there}
-use Rattle.mum_state.specs.State.{StateValue}
-use Rattle.mum_state.specs.declared.verdict.Verdict.TheVariants.{Answer, Ignored}
-use Rattle.mum_rules_tree.specs.Asked.{channel, given_unless, is_number_there}
-use Rattle.mum_rules_tree.specs.Decision.{Need, first_standing, is_met, is_open, need, way}
-use Rattle.mum_rules_tree.specs.Tokens.{tokens_for_once}
-use Rattle.mum_rules_tree.specs.Verdict.{actor_named, nobody}
-use Rattle.mum_rules_user.specs.Asked.{Command, channel_of, channels, channels_of, channels_there, command_of, is_oneself, new_channel, rules_speech, session_numbered, session_or}
-use Rattle.mum_rules_user.specs.Limits.{limits}
-use Rattle.mum_rules_user.specs.Needs.{either_way, is_ban, needs, needs_to_kick, needs_to_listen, needs_to_rule_speech}
-use Rattle.mum_rules_user.specs.Outcome.{answer_frame, outcome}
-use Rattle.mum_rules_user.specs.Reasons.{reasons}
-use Rattle.mum_rules_user.specs.Verdict.{actor_for, user_verdict}
-use Rattle.mum_rules_user.specs.declared.message.UserMessage.{UserMessage}
-use Rattle.mum_rules_user.specs.declared.message.UserMessage.TheVariants.{Kick, Text, User as Changes}
-use Rattle.mum_part_laws.proofs.Chains.{Tells, tells_eq, tells_or, tells_so}
-use Rattle.mum_limits_laws.specs.Denials.{IsDeniedFor, MayNot, MayNotWith}
-use Rattle.mum_limits_laws.specs.UserNeeds.{KicksAreDeniedForTheFirst, LacksToChange, LacksToKick, LacksToWrite, RulesSpeech, TextsAreDeniedForTheFirst, UserChangesAreDeniedForTheFirst, UserNeed, order_of_change, order_of_text, permission, place_of_change, place_of_text, tokens_with}
-use Rattle.mum_limits_laws.proofs.Cases.{some_given}
-use Rattle.mum_limits_laws.proofs.NeedLaws.{from_moved, from_so, names}
-use Rattle.mum_limits_laws.proofs.Wanted.{AreNamed, IsOutcome, denied_lem, elsewhere, lacks, one_way, two_ways, unmet, where_moved, where_so}
+use Rattle.mum_limits_laws.proofs.Common.{◌≡◌, ℕ, ◌-◌, ◌==◌, ◌||◌, not, Bool, true, false, cond, List, [], ◌∷◌, ◌++◌, map, filter, take, length, Option, Some, None, refl, sym, ap, subst, ◌∙◌, is_some, unwrap_or, cons_option, filter_map, option_map, option_map_or, false≢true, append-nil, filter_map-append, take-nil, none-some, same_Some, reason_code, ChannelId, SessionId, ROOT, NotThere, Perm, BAN, ENTER, KICK, LISTEN, MOVE, MUTE_DEAFEN, TEXT_MESSAGE, UserRemove, UserState, Actor, row_of, session_of, User, actor_from, actor_with, granted_where_there, StateValue, Answer, Ignored, channel, given_unless, is_number_there, Need, first_standing, is_met, is_open, need, way, tokens_for_once, actor_named, nobody, channel_of, channels, channels_of, channels_there, is_oneself, new_channel, rules_speech, session_numbered, session_or, either_way, is_ban, needs_to_kick, needs_to_listen, needs_to_rule_speech, actor_for, user_verdict, UserMessage, Kick, Text, Changes, Tells, tells_eq, tells_or, tells_so, IsDeniedFor, MayNot, MayNotWith, KicksAreDeniedForTheFirst, LacksToKick, LacksToWrite, RulesSpeech, TextsAreDeniedForTheFirst, UserChangesAreDeniedForTheFirst, UserNeed, order_of_text, place_of_change, place_of_text, tokens_with}
+use Rattle.mum_rules_user.specs.{Asked.Command, Asked.command_of, Limits.limits, Needs.needs, Outcome.answer_frame, Outcome.outcome, Reasons.reasons}
+use Rattle.mum_limits_laws.specs.UserNeeds.{LacksToChange, order_of_change, permission}
+use Rattle.mum_limits_laws.proofs.{Cases.some_given, NeedLaws.from_moved, NeedLaws.from_so, NeedLaws.names, Wanted.AreNamed, Wanted.IsOutcome, Wanted.denied_lem, Wanted.elsewhere, Wanted.lacks, Wanted.one_way, Wanted.two_ways, Wanted.unmet, Wanted.where_moved, Wanted.where_so}
 
 -- ---- commands
 

@@ -1,55 +1,7 @@
 -- A message on channels is refused for the first limit that applies.
-use Rattle.std.proofs.Common.{◌≡◌, ◌≢◌, ℕ, ◌+◌, ◌-◌, ◌^◌, ◌≤◌, ◌<◌, ◌==◌, ◌&&◌, ◌||◌, not, Bool, true, false, cond, List, [], ◌∷◌, ◌++◌, map, filter, length, Option, Some, None, refl, sym, ap, subst, ◌∙◌, arith}
-use Rattle.std.specs.Prelude.{is_none, is_some, nat_le, nat_lt, unwrap_or}
-use Rattle.std.specs.List.{Contains, list_all, list_any}
-use Rattle.std.specs.Option.{option_map, option_map_or}
-use Rattle.std.specs.Str.{bytes_eq}
-use Rattle.std.proofs.lemmas.Bool.{and_parts, false≢true}
-use Rattle.std.proofs.lemmas.Bool.Decides.{nat_tests}
-use Rattle.std.proofs.lemmas.List.{length-map}
-use Rattle.std.proofs.lemmas.List.Elements.{All-contains}
-use Rattle.std.proofs.lemmas.Option.{none-some}
-use Rattle.std.proofs.lemmas.Slice.Eq.{bytes_eq-Decides}
-use Rattle.mum_base.specs.Codes.{deny_code}
-use Rattle.mum_base.specs.declared.number.ChannelId.{ChannelId}
-use Rattle.mum_base.specs.declared.number.SessionId.{SessionId}
-use Rattle.mum_base.specs.declared.number.TheConstants.ChannelId.{ROOT}
-use Rattle.mum_base.specs.declared.outcome.DenyType.{DenyType}
-use Rattle.mum_base.specs.declared.outcome.DenyType.TheVariants.{ChannelCountLimit, ChannelName, NestingLimit, TemporaryChannel, Text, TextTooLong}
-use Rattle.mum_msg_rule.specs.declared.acl.Acl.{Acl as AclMessage}
-use Rattle.mum_msg_rule.specs.declared.acl_group.AclGroup.{AclGroup}
-use Rattle.mum_msg_rule.specs.declared.acl_line.AclLine.{AclLine}
-use Rattle.mum_msg_state.specs.declared.channel_state.ChannelState.{ChannelState}
-use Rattle.mum_policy.specs.declared.policy.ChannelPolicy.{ChannelPolicy}
-use Rattle.mum_policy.specs.declared.policy.Whom.TheVariants.{Account, Group}
-use Rattle.mum_policy.specs.Limits.{is_large_group, is_large_policy, is_long_whom}
-use Rattle.mum_tree.specs.declared.channel.Row.{Row}
-use Rattle.mum_tree.specs.Change.{Change, given_or, name_after, overlinks, parent_after, renames_or_moves}
-use Rattle.mum_tree.specs.Refusals.{is_full, name_of as name_here, parent_of}
-use Rattle.mum_tree.specs.Rows.{is_below, is_root, is_taken, is_temporary, is_there, nests, path, row_of}
-use Rattle.mum_tree.specs.State.{TreeState, next_number}
-use Rattle.mum_state.specs.Fits.{holds_of_given}
-use Rattle.mum_state.specs.Proper.{IsProper, is_name, is_text}
-use Rattle.mum_state.specs.State.{StateValue}
-use Rattle.mum_rules_tree.specs.Asked.{Command, change_asked, channel, command_of, given_unless, is_number_there, is_other, names_there, others, parent_of_new, text_or_empty}
-use Rattle.mum_rules_tree.specs.Decision.{first_lack, first_standing}
-use Rattle.mum_rules_tree.specs.Limits.{limits, limits_of_new, new_number, takes_no_channels, without_parting}
-use Rattle.mum_rules_tree.specs.Needs.{needs}
-use Rattle.mum_rules_tree.specs.Outcome.{outcome}
-use Rattle.mum_rules_tree.specs.Policy.{account, entry_asked, group_asked, has_twice, policy_asked, whom_asked}
-use Rattle.mum_rules_tree.specs.Reasons.{reasons}
-use Rattle.mum_rules_tree.specs.Verdict.{actor_named, tree_verdict}
-use Rattle.mum_rules_tree.specs.declared.message.TreeMessage.{TreeMessage}
-use Rattle.mum_rules_tree.specs.declared.message.TreeMessage.TheVariants.{Acl, Remove, State}
-use Rattle.mum_rules_tree.proofs.Cleared.{all_off}
-use Rattle.mum_part_laws.specs.Trees.{HasName, IsOnWay, IsTemporary, NestsTooDeep}
-use Rattle.mum_part_laws.proofs.Chains.{Tells, TellsEach, tells_and, tells_any, tells_eq, tells_le, tells_lt, tells_not, tells_off, tells_or, tells_so}
-use Rattle.mum_part_laws.proofs.ChangeLaws.{over}
-use Rattle.mum_part_laws.proofs.TreeLaws.{named, nested, on_way, same_bytes, temporary}
-use Rattle.mum_limits_laws.specs.Denials.{IsRefusedFor}
-use Rattle.mum_limits_laws.specs.ChannelLimits.{AgainstChanging, AgainstMaking, AgainstRemoving, AgainstRuling, ChangesAreRefusedForTheFirst, ComesTwice, IsLargeGroup, IsLargePolicy, IsLongLine, IsNameThere, IsPlaced, NewChannelsAreRefusedForTheFirst, PoliciesAreRefusedForTheFirst, RemovalsAreRefusedForTheFirst, TreeLimit, groups_set, lines_set, name_of, name_then, number, parent_then}
-use Rattle.mum_limits_laws.proofs.Limited.{any_map, limited_lem, long, rows}
-use Rattle.mum_limits_laws.proofs.NeedLaws.{ends}
+use Rattle.mum_limits_laws.proofs.Common.{◌≡◌, ◌≢◌, ℕ, ◌+◌, ◌-◌, ◌^◌, ◌≤◌, ◌<◌, ◌==◌, ◌&&◌, ◌||◌, not, Bool, true, false, cond, List, [], ◌∷◌, ◌++◌, map, filter, length, Option, Some, None, refl, sym, ap, subst, ◌∙◌, arith, is_none, is_some, nat_le, nat_lt, unwrap_or, Contains, list_all, list_any, option_map, option_map_or, bytes_eq, and_parts, false≢true, nat_tests, length-map, All-contains, none-some, bytes_eq-Decides, deny_code, ChannelId, SessionId, ROOT, DenyType, ChannelCountLimit, ChannelName, NestingLimit, TemporaryChannel, TextTooLong, AclMessage, AclGroup, AclLine, ChannelState, ChannelPolicy, Account, Group, is_large_group, is_large_policy, is_long_whom, Row, Change, given_or, name_after, overlinks, parent_after, renames_or_moves, is_full, name_here, parent_of, is_below, is_root, is_taken, is_temporary, is_there, nests, path, row_of, TreeState, next_number, holds_of_given, IsProper, is_name, is_text, StateValue, Command, change_asked, channel, command_of, given_unless, is_number_there, is_other, names_there, others, parent_of_new, text_or_empty, first_lack, first_standing, limits, limits_of_new, new_number, takes_no_channels, without_parting, needs, outcome, account, entry_asked, group_asked, has_twice, policy_asked, whom_asked, reasons, actor_named, tree_verdict, TreeMessage, Acl, Remove, State, all_off, HasName, IsOnWay, IsTemporary, NestsTooDeep, Tells, TellsEach, tells_and, tells_any, tells_eq, tells_le, tells_lt, tells_not, tells_off, tells_or, tells_so, over, named, nested, on_way, same_bytes, temporary, IsRefusedFor, AgainstChanging, AgainstMaking, AgainstRemoving, AgainstRuling, ChangesAreRefusedForTheFirst, ComesTwice, IsLargeGroup, IsLargePolicy, IsLongLine, IsNameThere, IsPlaced, NewChannelsAreRefusedForTheFirst, PoliciesAreRefusedForTheFirst, RemovalsAreRefusedForTheFirst, TreeLimit, groups_set, lines_set, name_of, name_then, number, parent_then}
+use Rattle.mum_base.specs.declared.outcome.DenyType.TheVariants.{Text}
+use Rattle.mum_limits_laws.proofs.{Limited.any_map, Limited.limited_lem, Limited.long, Limited.rows, NeedLaws.ends}
 
 -- ---- limits and their denials
 

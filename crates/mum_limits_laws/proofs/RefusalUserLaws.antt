@@ -1,52 +1,8 @@
 -- A message on users is refused for the first limit that applies.
-use Rattle.std.proofs.Common.{◌≡◌, ◌≢◌, ℕ, ◌≤◌, ◌<◌, ◌==◌, ◌&&◌, ◌||◌, not, Bool, true, false, cond, List, [], ◌∷◌, map, length, Option, Some, None, refl, sym, ap, subst, ◌∙◌, arith}
-use Rattle.std.specs.Prelude.{nat_le, nat_lt, sum_by, unwrap_or}
-use Rattle.std.specs.List.{Contains, count_by, list_any}
-use Rattle.std.specs.Option.{option_map, option_map_or}
-use Rattle.std.proofs.lemmas.Bool.{false≢true}
-use Rattle.std.proofs.lemmas.Bool.Decides.{nat_tests}
-use Rattle.std.proofs.lemmas.List.{length-map}
-use Rattle.std.proofs.lemmas.List.Sums.{sum_by-cons}
-use Rattle.std.proofs.lemmas.Option.{none-some, same_Some}
-use Rattle.mum_base.specs.Codes.{deny_code}
-use Rattle.mum_base.specs.declared.number.AccountId.{AccountId}
-use Rattle.mum_base.specs.declared.number.ChannelId.{ChannelId}
-use Rattle.mum_base.specs.declared.number.SessionId.{SessionId}
-use Rattle.mum_base.specs.declared.number.TheConstants.AccountId.{SUPER_USER}
-use Rattle.mum_base.specs.declared.number.TheConstants.ChannelId.{ROOT}
-use Rattle.mum_base.specs.declared.outcome.DenyType.{DenyType}
-use Rattle.mum_base.specs.declared.outcome.DenyType.TheVariants.{ChannelFull, ChannelListenerLimit, SuperUser, Text as Other, TextTooLong, UserListenerLimit}
-use Rattle.mum_msg_rule.specs.declared.target_block.TargetBlock.{TargetBlock}
-use Rattle.mum_msg_rule.specs.declared.voice_target.VoiceTarget.{VoiceTarget}
-use Rattle.mum_msg_state.specs.declared.user_state.UserState.{UserState}
-use Rattle.mum_policy.specs.Walk.{is_account}
-use Rattle.mum_tree.specs.declared.channel.Row.{Row}
-use Rattle.mum_tree.specs.Rows.{row_of}
-use Rattle.mum_users.specs.declared.listening.ListenerPair.{ListenerPair}
-use Rattle.mum_users.specs.declared.target.TargetItem.{TargetItem}
-use Rattle.mum_users.specs.declared.user.User.{User}
-use Rattle.mum_users.specs.Edit.{is_crowded}
-use Rattle.mum_users.specs.Sessions.{session_of}
-use Rattle.mum_users.specs.State.{is_context, is_in, is_of_session}
-use Rattle.mum_users.specs.Targets.{is_oversize}
-use Rattle.mum_state.specs.Fits.{holds_of_given}
-use Rattle.mum_state.specs.Proper.{is_text}
-use Rattle.mum_state.specs.State.{StateValue}
-use Rattle.mum_rules_tree.specs.Asked.{channel, given_unless, text_or_empty}
-use Rattle.mum_rules_tree.specs.Decision.{first_lack, first_standing}
-use Rattle.mum_rules_user.specs.Asked.{Command, channel_of, channels, command_of, item_asked, number_of_target, rules_speech, session_or, target_asked}
-use Rattle.mum_rules_user.specs.Limits.{has_long_text, is_protected, is_super_user, limits, pairs_with, takes_nobody}
-use Rattle.mum_rules_user.specs.Needs.{needs}
-use Rattle.mum_rules_user.specs.Outcome.{outcome}
-use Rattle.mum_rules_user.specs.Reasons.{reasons}
-use Rattle.mum_rules_user.specs.Verdict.{actor_for, user_verdict}
-use Rattle.mum_rules_user.specs.declared.message.UserMessage.{UserMessage}
-use Rattle.mum_rules_user.specs.declared.message.UserMessage.TheVariants.{Kick, Target, Text, User as Changes}
-use Rattle.mum_part_laws.proofs.Chains.{Tells, TellsEach, tells_and, tells_any, tells_eq, tells_le, tells_lt, tells_not, tells_or, tells_so}
-use Rattle.mum_limits_laws.specs.Denials.{IsRefusedFor}
-use Rattle.mum_limits_laws.specs.UserLimits.{AgainstAiming, AgainstChanging, AgainstKicking, AgainstWriting, EntersFull, IsProtected, KicksAreRefusedForTheFirst, TargetsAreRefusedForTheFirst, TextsAreRefusedForTheFirst, UserChangesAreRefusedForTheFirst, UserLimit, listening_then, number}
-use Rattle.mum_limits_laws.proofs.Limited.{any_map, limited_lem, long, rows}
-use Rattle.mum_limits_laws.proofs.NeedUserLaws.{ends, ruling}
+use Rattle.mum_limits_laws.proofs.Common.{◌≡◌, ◌≢◌, ℕ, ◌≤◌, ◌<◌, ◌==◌, ◌&&◌, ◌||◌, not, Bool, true, false, cond, List, [], ◌∷◌, map, length, Option, Some, None, refl, sym, ap, subst, ◌∙◌, arith, nat_le, nat_lt, sum_by, unwrap_or, Contains, count_by, list_any, option_map, option_map_or, false≢true, nat_tests, length-map, sum_by-cons, none-some, same_Some, deny_code, AccountId, ChannelId, SessionId, SUPER_USER, ROOT, DenyType, ChannelFull, ChannelListenerLimit, SuperUser, Other, TextTooLong, UserListenerLimit, TargetBlock, VoiceTarget, UserState, is_account, Row, row_of, ListenerPair, TargetItem, User, is_crowded, session_of, is_context, is_in, is_of_session, is_oversize, holds_of_given, is_text, StateValue, channel, given_unless, text_or_empty, first_lack, first_standing, channel_of, channels, item_asked, number_of_target, rules_speech, session_or, target_asked, has_long_text, is_protected, is_super_user, pairs_with, takes_nobody, actor_for, user_verdict, UserMessage, Kick, Target, Text, Changes, Tells, TellsEach, tells_and, tells_any, tells_eq, tells_le, tells_lt, tells_not, tells_or, tells_so, IsRefusedFor, AgainstAiming, AgainstKicking, AgainstWriting, EntersFull, IsProtected, KicksAreRefusedForTheFirst, TargetsAreRefusedForTheFirst, TextsAreRefusedForTheFirst, UserChangesAreRefusedForTheFirst, UserLimit, listening_then}
+use Rattle.mum_rules_user.specs.{Asked.Command, Asked.command_of, Limits.limits, Needs.needs, Outcome.outcome, Reasons.reasons}
+use Rattle.mum_limits_laws.specs.UserLimits.{AgainstChanging, number}
+use Rattle.mum_limits_laws.proofs.{Limited.any_map, Limited.limited_lem, Limited.long, Limited.rows, NeedUserLaws.ends, NeedUserLaws.ruling}
 
 -- ---- limits and their denials
 

@@ -1,29 +1,5 @@
 -- A denial names the first need that is not met.
-use Rattle.std.proofs.Common.{◌≡◌, ◌≢◌, ℕ, ◌==◌, ◌||◌, not, Bool, true, false, cond, List, [], ◌∷◌, Option, Some, None, refl, sym, ap, subst, ◌∙◌}
-use Rattle.std.specs.Prelude.{⊤, find, unwrap_or}
-use Rattle.std.specs.List.{All, cons_option, filter_map}
-use Rattle.std.specs.Option.{option_map, option_map_or}
-use Rattle.std.proofs.lemmas.Bool.{false≢true}
-use Rattle.std.proofs.lemmas.List.Elements.{All-cons, All-nil}
-use Rattle.std.proofs.lemmas.Option.{none-some, same_Some}
-use Rattle.mum_base.specs.declared.number.ChannelId.{ChannelId}
-use Rattle.mum_base.specs.declared.outcome.DenyType.{DenyType}
-use Rattle.mum_base.specs.declared.outcome.Reason.{Reason}
-use Rattle.mum_base.specs.declared.perm.Perm.{Perm}
-use Rattle.mum_policy.specs.Walk.{holds}
-use Rattle.mum_tree.specs.Rows.{is_there}
-use Rattle.mum_users.specs.declared.user.User.{User}
-use Rattle.mum_state.specs.Permissions.{actor_with, granted_to}
-use Rattle.mum_state.specs.State.{StateValue}
-use Rattle.mum_state.specs.declared.verdict.Verdict.{Verdict}
-use Rattle.mum_state.specs.declared.verdict.Verdict.TheVariants.{Accepted, Answer, Ignored, Lacks, Refused, Rejected}
-use Rattle.mum_rules_tree.specs.Asked.{channel, given_unless}
-use Rattle.mum_rules_tree.specs.Decision.{Need, first_lack, is_met, is_open, lack_of, way}
-use Rattle.mum_rules_tree.specs.declared.needs.Lack.{Lack}
-use Rattle.mum_rules_tree.proofs.Firsts.{told}
-use Rattle.mum_part_laws.specs.Firsts.{IsFirst}
-use Rattle.mum_part_laws.proofs.Chains.{Tells, tells_eq, tells_off, tells_so}
-use Rattle.mum_limits_laws.specs.Denials.{IsDeniedFor, MayNotWith}
+use Rattle.mum_limits_laws.proofs.Common.{◌≡◌, ◌≢◌, ℕ, ◌==◌, ◌||◌, not, Bool, true, false, cond, List, [], ◌∷◌, Option, Some, None, refl, sym, ap, subst, ◌∙◌, ⊤, find, unwrap_or, All, cons_option, filter_map, option_map, option_map_or, false≢true, All-cons, All-nil, none-some, same_Some, ChannelId, DenyType, Reason, Perm, holds, is_there, User, actor_with, granted_to, StateValue, Verdict, Accepted, Answer, Ignored, Lacks, Refused, Rejected, channel, given_unless, Need, first_lack, is_met, is_open, lack_of, way, Lack, told, IsFirst, Tells, tells_eq, tells_off, tells_so, IsDeniedFor, MayNotWith}
 
 -- a need that is asked for and not met
 abbrev pub unmet : StateValue → Option Need → Bool

@@ -1,37 +1,5 @@
 -- What a proper state says of the numbers of things.
-use Rattle.std.proofs.Common.{◌≡◌, ◌≤◌, ◌<◌, ◌==◌, ◌&&◌, ◌||◌, ℕ, not, Bool, true, false, cond, List, [], ◌∷◌, length, Option, Some, None, refl, ap, subst, arith}
-use Rattle.std.specs.Prelude.{is_none, nat_le, nat_lt, sum_by}
-use Rattle.std.specs.List.{All, count_by, list_all, list_any}
-use Rattle.std.proofs.lemmas.Bool.{and_parts, false≢true, or_parts}
-use Rattle.std.proofs.lemmas.Bool.Decides.{nat_tests}
-use Rattle.std.proofs.lemmas.List.{length-reverse}
-use Rattle.std.proofs.lemmas.List.Elements.{All-cons, All-nil}
-use Rattle.std.proofs.lemmas.List.Sums.{AllPass-from_list_all}
-use Rattle.mum_base.specs.declared.name.NameFault.{NameFault}
-use Rattle.mum_base.specs.declared.name.NameFault.TheVariants.{Empty, TooLong}
-use Rattle.mum_policy.specs.declared.policy.ChannelPolicy.{ChannelPolicy}
-use Rattle.mum_policy.specs.declared.policy.AclEntry.{AclEntry}
-use Rattle.mum_policy.specs.declared.policy.Group.{Group as GroupRow}
-use Rattle.mum_policy.specs.Limits.{is_large_group, is_large_policy, is_long_whom}
-use Rattle.mum_tree.specs.Rows.{upward}
-use Rattle.mum_tree.proofs.Depths.{upward_within}
-use Rattle.mum_users.specs.declared.target.TargetRow.{TargetRow}
-use Rattle.mum_users.specs.declared.target.TargetItem.{TargetItem}
-use Rattle.mum_users.specs.declared.user.User.{User}
-use Rattle.mum_users.specs.Proper.{is_sound}
-use Rattle.mum_users.specs.State.{are_tokens, is_context, is_long_token}
-use Rattle.mum_users.specs.Targets.{is_oversize}
-use Rattle.mum_users.proofs.Counts.{count_by-cons}
-use Rattle.mum_users.proofs.Slots.{SlotsRise-within}
-use Rattle.mum_state.specs.Applied.{applied}
-use Rattle.mum_state.specs.Fits.{fits}
-use Rattle.mum_state.specs.Proper.{IsProper, is_name, is_short, is_sound_channel, is_sound_entry, is_sound_policy, is_sound_user, is_text}
-use Rattle.mum_state.specs.State.{PolicyRow, StateValue}
-use Rattle.mum_state.proofs.Keeping.{fit_proper}
-use Rattle.mum_rules_tree.specs.Decision.{FitsWhereAccepted}
-use Rattle.mum_rules_tree.proofs.Accepted.{accepted_fits}
-use Rattle.mum_rules_user.proofs.Accepted.{accepted_fits as user_accepted_fits}
-use Rattle.mum_limits_laws.specs.Within.{AreFewChannels, AreFewSessions, IsSmallPolicy, IsSmallTarget, IsSmallUser, TreeCommandsKeepWithin, UserCommandsKeepWithin, ValidStatesAreWithin}
+use Rattle.mum_limits_laws.proofs.Common.{◌≡◌, ◌≤◌, ◌<◌, ◌==◌, ◌&&◌, ◌||◌, ℕ, not, Bool, true, false, cond, List, [], ◌∷◌, length, Option, Some, None, refl, ap, subst, arith, is_none, nat_le, nat_lt, sum_by, All, count_by, list_all, list_any, and_parts, false≢true, or_parts, nat_tests, length-reverse, All-cons, All-nil, AllPass-from_list_all, NameFault, Empty, TooLong, ChannelPolicy, AclEntry, GroupRow, is_large_group, is_large_policy, is_long_whom, upward, upward_within, TargetRow, TargetItem, User, is_sound, are_tokens, is_context, is_long_token, is_oversize, count_by-cons, SlotsRise-within, applied, fits, IsProper, is_name, is_short, is_sound_channel, is_sound_entry, is_sound_policy, is_sound_user, is_text, PolicyRow, StateValue, fit_proper, FitsWhereAccepted, accepted_fits, user_accepted_fits, AreFewChannels, AreFewSessions, IsSmallPolicy, IsSmallTarget, IsSmallUser, TreeCommandsKeepWithin, UserCommandsKeepWithin, ValidStatesAreWithin}
 
 -- ---- tests
 

@@ -1,22 +1,17 @@
 -- For which limit a message on channels is refused: the first that applies, by its own number.
 use Rattle.std.specs.Prelude.{◌≡◌, ◌≢◌, ◌⊎◌, ◌≤◌, ◌<◌, ◌==◌, ℕ, ◌-◌, ◌^◌, not, false, List, [], ◌∷◌, ◌++◌, filter, length, map, Some, None, unwrap_or}
 use Rattle.std.specs.List.{Contains, count_by}
-use Rattle.mum_base.specs.declared.number.ChannelId.{ChannelId}
-use Rattle.mum_base.specs.declared.number.SessionId.{SessionId}
-use Rattle.mum_msg_rule.specs.declared.acl.Acl.{Acl as AclMessage}
-use Rattle.mum_msg_rule.specs.declared.acl_group.AclGroup.{AclGroup}
-use Rattle.mum_msg_rule.specs.declared.acl_line.AclLine.{AclLine}
+use Rattle.mum_base.specs.declared.number.{ChannelId.ChannelId, SessionId.SessionId}
+use Rattle.mum_tree.specs.{Change.pairs_with_all, Rows.path, Rows.row_of, State.starts_at}
+use Rattle.mum_tree.specs.declared.channel.Row.{Row}
+use Rattle.mum_part_laws.specs.Trees.{HasName, IsOnWay, IsTemporary, NestsTooDeep}
 use Rattle.mum_msg_state.specs.declared.channel_remove.ChannelRemove.{ChannelRemove}
 use Rattle.mum_msg_state.specs.declared.channel_state.ChannelState.{ChannelState}
-use Rattle.mum_tree.specs.Change.{pairs_with_all}
-use Rattle.mum_tree.specs.Rows.{path, row_of}
-use Rattle.mum_tree.specs.State.{starts_at}
-use Rattle.mum_tree.specs.declared.channel.Row.{Row}
-use Rattle.mum_state.specs.Proper.{IsProper, is_name}
-use Rattle.mum_state.specs.State.{StateValue}
+use Rattle.mum_msg_rule.specs.declared.{acl.Acl.Acl as AclMessage, acl_group.AclGroup.AclGroup}
+use Rattle.mum_msg_rule.specs.declared.acl_line.AclLine.{AclLine}
+use Rattle.mum_state.specs.{Proper.IsProper, Proper.is_name, State.StateValue}
 use Rattle.mum_rules_tree.specs.Verdict.{tree_verdict}
 use Rattle.mum_rules_tree.specs.declared.message.TreeMessage.TheVariants.{Acl, Remove, State}
-use Rattle.mum_part_laws.specs.Trees.{HasName, IsOnWay, IsTemporary, NestsTooDeep}
 use Rattle.mum_limits_laws.specs.Denials.{IsRefusedFor, channel}
 
 -- what may be against a message on channels
@@ -47,19 +42,23 @@ number other = 0
 -- a channel under the parent has the name; the root is the child of none
 abbrev pub IsNameThere : StateValue → ℕ → List ℕ → Type 0
 IsNameThere state parent name =
-    (row : Row) × Contains state.tree.channels row × (row.channel.id.0 ≢ 0) × (row.channel.parent.0 ≡ parent) × (row.channel.name ≡ name)
+    (row : Row) × Contains state.tree.channels row × (row.channel.id.0 ≢ 0) × (row.channel.parent.0 ≡ parent)
+    × (row.channel.name ≡ name)
 
 abbrev pub AgainstMaking : StateValue → ChannelState → ℕ → TreeLimit → Type 0
 AgainstMaking state asked parent TreeLimit.taken_name =
     (is_name (unwrap_or asked.name []) ≡ false) ⊎ IsNameThere state parent (unwrap_or asked.name [])
 AgainstMaking state asked parent TreeLimit.temporary_parent = IsTemporary state.tree (channel parent)
 AgainstMaking state asked parent TreeLimit.too_deep = 33 ≤ length (path state.tree.channels (channel parent))
-AgainstMaking state asked parent TreeLimit.too_many = (state.tree.limit ≤ length state.tree.channels) ⊎ (2 ^ 32 - 1 ≤ state.tree.greatest)
+AgainstMaking state asked parent TreeLimit.too_many =
+    (state.tree.limit ≤ length state.tree.channels) ⊎ (2 ^ 32 - 1 ≤ state.tree.greatest)
 AgainstMaking state asked parent TreeLimit.long_text = 20000 < length (unwrap_or asked.description [])
 AgainstMaking state asked parent limit = ⊥
 
 abbrev pub order_of_making : List TreeLimit
-order_of_making = TreeLimit.taken_name ∷ TreeLimit.temporary_parent ∷ TreeLimit.too_deep ∷ TreeLimit.too_many ∷ TreeLimit.long_text ∷ []
+order_of_making =
+    TreeLimit.taken_name ∷ TreeLimit.temporary_parent ∷ TreeLimit.too_deep ∷ TreeLimit.too_many ∷ TreeLimit.long_text
+    ∷ []
 
 abbrev pub NewChannelsAreRefusedForTheFirst : Type 0
 NewChannelsAreRefusedForTheFirst =
@@ -90,17 +89,22 @@ AgainstChanging state asked row TreeLimit.fixed_root = IsPlaced asked row × (ro
 AgainstChanging state asked row TreeLimit.taken_name =
     ((name_then asked row ≢ row.channel.name) × (is_name (name_then asked row) ≡ false))
     ⊎ (IsPlaced asked row × HasName state.tree (parent_then asked row) row.channel.id (name_then asked row))
-AgainstChanging state asked row TreeLimit.under_itself = IsPlaced asked row × IsOnWay state.tree row.channel.id (parent_then asked row)
-AgainstChanging state asked row TreeLimit.temporary_parent = IsPlaced asked row × IsTemporary state.tree (parent_then asked row)
-AgainstChanging state asked row TreeLimit.too_deep = IsPlaced asked row × NestsTooDeep state.tree row.channel.id (parent_then asked row)
+AgainstChanging state asked row TreeLimit.under_itself =
+    IsPlaced asked row × IsOnWay state.tree row.channel.id (parent_then asked row)
+AgainstChanging state asked row TreeLimit.temporary_parent =
+    IsPlaced asked row × IsTemporary state.tree (parent_then asked row)
+AgainstChanging state asked row TreeLimit.too_deep =
+    IsPlaced asked row × NestsTooDeep state.tree row.channel.id (parent_then asked row)
 AgainstChanging state asked row TreeLimit.long_text = 20000 < length (unwrap_or asked.description [])
 AgainstChanging state asked row TreeLimit.too_many_links =
-    (one : ChannelId) × (64 < count_by (starts_at one) (pairs_with_all row.channel.id (links_asked asked row) state.tree.links))
+    (one : ChannelId)
+    × (64 < count_by (starts_at one) (pairs_with_all row.channel.id (links_asked asked row) state.tree.links))
 AgainstChanging state asked row limit = ⊥
 
 abbrev pub order_of_changing : List TreeLimit
 order_of_changing =
-    TreeLimit.fixed_root ∷ TreeLimit.taken_name ∷ TreeLimit.under_itself ∷ TreeLimit.temporary_parent ∷ TreeLimit.too_deep ∷ TreeLimit.long_text
+    TreeLimit.fixed_root ∷ TreeLimit.taken_name ∷ TreeLimit.under_itself ∷ TreeLimit.temporary_parent
+    ∷ TreeLimit.too_deep ∷ TreeLimit.long_text
     ∷ TreeLimit.too_many_links ∷ []
 
 abbrev pub ChangesAreRefusedForTheFirst : Type 0
@@ -145,15 +149,19 @@ IsLargePolicy asked =
 
 -- of a name that comes again the first place and the second
 abbrev pub ComesTwice : List (List ℕ) → Type 0
-ComesTwice names = (before between after : List (List ℕ)) × (name : List ℕ) × (names ≡ before ++ name ∷ (between ++ name ∷ after))
+ComesTwice names =
+    (before between after : List (List ℕ)) × (name : List ℕ) × (names ≡ before ++ name ∷ (between ++ name ∷ after))
 
 abbrev pub AgainstRuling : AclMessage → TreeLimit → Type 0
 AgainstRuling asked TreeLimit.large_policy = IsLargePolicy asked
-AgainstRuling asked TreeLimit.unnamed_group = (group : AclGroup) × Contains (groups_set asked) group × (is_name (name_of group) ≡ false)
+AgainstRuling asked TreeLimit.unnamed_group =
+    (group : AclGroup) × Contains (groups_set asked) group × (is_name (name_of group) ≡ false)
 AgainstRuling asked TreeLimit.doubled_group = ComesTwice (map name_of (groups_set asked))
 AgainstRuling asked limit = ⊥
 
 abbrev pub PoliciesAreRefusedForTheFirst : Type 0
 PoliciesAreRefusedForTheFirst =
     (state : StateValue) (actor : SessionId) (asked : AclMessage) → unwrap_or asked.query false ≡ false
-    → IsRefusedFor number (AgainstRuling asked) (TreeLimit.large_policy ∷ TreeLimit.unnamed_group ∷ TreeLimit.doubled_group ∷ []) (tree_verdict state actor (Acl asked))
+    → IsRefusedFor number (AgainstRuling asked)
+    (TreeLimit.large_policy ∷ TreeLimit.unnamed_group ∷ TreeLimit.doubled_group ∷ [])
+    (tree_verdict state actor (Acl asked))

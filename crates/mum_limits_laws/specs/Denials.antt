@@ -5,11 +5,10 @@ use Rattle.mum_base.specs.declared.number.ChannelId.{ChannelId}
 use Rattle.mum_policy.specs.Walk.{holds}
 use Rattle.mum_tree.specs.Rows.{is_there}
 use Rattle.mum_users.specs.declared.user.User.{User}
-use Rattle.mum_state.specs.Permissions.{actor_with, granted_to}
-use Rattle.mum_state.specs.State.{StateValue}
+use Rattle.mum_part_laws.specs.Firsts.{IsFirst}
+use Rattle.mum_state.specs.{Permissions.actor_with, Permissions.granted_to, State.StateValue}
 use Rattle.mum_state.specs.declared.verdict.Verdict.{Verdict}
 use Rattle.mum_state.specs.declared.verdict.Verdict.TheVariants.{Accepted, Answer, Lacks, Refused}
-use Rattle.mum_part_laws.specs.Firsts.{IsFirst}
 
 abbrev pub channel : ℕ → ChannelId
 channel n = record { 0 = n }
@@ -36,6 +35,7 @@ IsDeniedFor permission place IsLacking order other = ⊤
 
 -- A refusal has the number of the first limit that applies. Against what is accepted applies none.
 abbrev pub IsRefusedFor : {Limit : Type 0} → (Limit → ℕ) → (Limit → Type 0) → List Limit → Verdict → Type 0
-IsRefusedFor {Limit} number Applies order (Refused kind) = (limit : Limit) × (kind ≡ number limit) × IsFirst Applies order limit
+IsRefusedFor {Limit} number Applies order (Refused kind) =
+    (limit : Limit) × (kind ≡ number limit) × IsFirst Applies order limit
 IsRefusedFor number Applies order (Accepted edit) = All (λ limit. ¬ Applies limit) order
 IsRefusedFor number Applies order other = ⊤

@@ -1,22 +1,15 @@
 -- What is full takes nothing more.
 use Rattle.std.specs.Prelude.{◌≡◌, ◌≢◌, ◌⊎◌, ◌≤◌, ◌<◌, ◌==◌, ℕ, not, false, [], ◌∷◌, filter, length, Some, None, unwrap_or}
 use Rattle.std.specs.List.{count_by}
-use Rattle.mum_base.specs.declared.number.ChannelId.{ChannelId}
-use Rattle.mum_base.specs.declared.number.SessionId.{SessionId}
-use Rattle.mum_msg_rule.specs.declared.acl.Acl.{Acl as AclMessage}
-use Rattle.mum_msg_rule.specs.declared.voice_target.VoiceTarget.{VoiceTarget}
-use Rattle.mum_msg_state.specs.declared.channel_state.ChannelState.{ChannelState}
-use Rattle.mum_msg_state.specs.declared.user_state.UserState.{UserState}
-use Rattle.mum_tree.specs.Rows.{path, row_of}
-use Rattle.mum_tree.specs.State.{are_linked}
+use Rattle.mum_base.specs.declared.number.{ChannelId.ChannelId, SessionId.SessionId}
+use Rattle.mum_tree.specs.{Rows.path, Rows.row_of, State.are_linked}
 use Rattle.mum_tree.specs.declared.channel.Row.{Row}
-use Rattle.mum_users.specs.Listeners.{listens}
-use Rattle.mum_users.specs.Sessions.{session_of}
+use Rattle.mum_users.specs.{Listeners.listens, Sessions.session_of}
 use Rattle.mum_users.specs.declared.user.User.{User}
-use Rattle.mum_state.specs.Proper.{IsProper}
-use Rattle.mum_state.specs.State.{StateValue}
-use Rattle.mum_state.specs.declared.edit.Edit.{Edit}
-use Rattle.mum_state.specs.declared.verdict.Verdict.TheVariants.{Accepted}
+use Rattle.mum_msg_state.specs.declared.{channel_state.ChannelState.ChannelState, user_state.UserState.UserState}
+use Rattle.mum_msg_rule.specs.declared.{acl.Acl.Acl as AclMessage, voice_target.VoiceTarget.VoiceTarget}
+use Rattle.mum_state.specs.{Proper.IsProper, State.StateValue}
+use Rattle.mum_state.specs.declared.{edit.Edit.Edit, verdict.Verdict.TheVariants.Accepted}
 use Rattle.mum_rules_tree.specs.Verdict.{tree_verdict}
 use Rattle.mum_rules_tree.specs.declared.message.TreeMessage.TheVariants.{Acl, State}
 use Rattle.mum_rules_user.specs.Verdict.{user_verdict}
@@ -30,15 +23,18 @@ FullChannelsAreNotEntered =
     → user_verdict state (Some actor) (Changes asked) ≡ Accepted edit
     → session_of state.roster (record { 0 = unwrap_or asked.session actor.0 }) ≡ Some user
     → asked.channel_id ≡ Some n → n ≢ user.channel.0 → row_of state.tree.channels (channel n) ≡ Some row
-    → (row.channel.info.max_users ≡ 0) ⊎ (count_by (λ one. one.channel.0 == n) state.roster.sessions < row.channel.info.max_users)
+    → (row.channel.info.max_users ≡ 0)
+    ⊎ (count_by (λ one. one.channel.0 == n) state.roster.sessions < row.channel.info.max_users)
 
 -- a link more of a channel that has 64 is not let in
 abbrev pub SixtyFifthLinksAreRefused : Type 0
 SixtyFifthLinksAreRefused =
-    (state : StateValue) (actor : SessionId) (asked : ChannelState) (edit : Edit) (id other : ChannelId) → IsProper state
+    (state : StateValue) (actor : SessionId) (asked : ChannelState) (edit : Edit) (id other : ChannelId)
+    → IsProper state
     → asked.channel_id ≡ Some id.0 → asked.links_add ≡ other.0 ∷ [] → asked.links_remove ≡ []
     → other.0 ≢ id.0 → are_linked state.tree id other ≡ false
-    → (64 ≤ count_by (λ pair. pair.0.0 == id.0) state.tree.links) ⊎ (64 ≤ count_by (λ pair. pair.0.0 == other.0) state.tree.links)
+    → (64 ≤ count_by (λ pair. pair.0.0 == id.0) state.tree.links)
+    ⊎ (64 ≤ count_by (λ pair. pair.0.0 == other.0) state.tree.links)
     → tree_verdict state actor (State asked) ≢ Accepted edit
 
 -- nor is a channel made where there are as many as may be, or under one that is 32 below the root

@@ -1,20 +1,16 @@
 -- Why a message on users is ignored: the first of these reasons that applies.
 use Rattle.std.specs.Prelude.{◌≡◌, ◌≢◌, ◌⊎◌, ◌≤◌, ◌<◌, ◌^◌, ℕ, [], ◌∷◌, length, Option, Some, None, unwrap_or}
 use Rattle.std.specs.List.{Contains}
-use Rattle.mum_base.specs.declared.number.SessionId.{SessionId}
-use Rattle.mum_base.specs.declared.outcome.Reason.{Reason}
+use Rattle.mum_base.specs.declared.{number.SessionId.SessionId, outcome.Reason.Reason}
 use Rattle.mum_base.specs.declared.outcome.Reason.TheVariants.{EmptyText, Gone, NotLoggedIn, NotThere, OfAnother, TooLong}
-use Rattle.mum_msg_state.specs.declared.authenticate.Authenticate.{Authenticate}
-use Rattle.mum_msg_state.specs.declared.user_state.UserState.{UserState}
 use Rattle.mum_users.specs.Sessions.{session_of}
-use Rattle.mum_state.specs.Proper.{IsProper}
-use Rattle.mum_state.specs.State.{StateValue}
+use Rattle.mum_part_laws.specs.Firsts.{IsFirst}
+use Rattle.mum_msg_state.specs.declared.{authenticate.Authenticate.Authenticate, user_state.UserState.UserState}
+use Rattle.mum_state.specs.{Proper.IsProper, State.StateValue}
 use Rattle.mum_state.specs.declared.verdict.Verdict.TheVariants.{Ignored}
-use Rattle.mum_rules_user.specs.Asked.{payload_of}
-use Rattle.mum_rules_user.specs.Verdict.{user_verdict}
+use Rattle.mum_rules_user.specs.{Asked.payload_of, Verdict.user_verdict}
 use Rattle.mum_rules_user.specs.declared.message.UserMessage.{UserMessage}
 use Rattle.mum_rules_user.specs.declared.message.UserMessage.TheVariants.{Join, Kick, Leave, Query, Text, User}
-use Rattle.mum_part_laws.specs.Firsts.{IsFirst}
 use Rattle.mum_limits_laws.specs.Heard.{IsNobody, number}
 
 -- no session has the number
@@ -30,7 +26,8 @@ IsGone state None message = message ≡ Leave
 abbrev pub NamesNoUser : StateValue → UserState → Type 0
 NamesNoUser state asked =
     ((n : ℕ) × (asked.session ≡ Some n) × IsNoSession state n)
-    ⊎ ((n : ℕ) × ((asked.channel_id ≡ Some n) ⊎ Contains asked.listening_channel_add n ⊎ Contains asked.listening_channel_remove n) × IsNobody state n)
+    ⊎ ((n : ℕ) × ((asked.channel_id ≡ Some n) ⊎ Contains asked.listening_channel_add n
+    ⊎ Contains asked.listening_channel_remove n) × IsNobody state n)
 
 -- whom a text and a voice target are for need not be there
 abbrev pub NamesNobody : StateValue → UserMessage → Type 0
@@ -43,7 +40,8 @@ NamesNobody state message = ⊥
 -- listens
 abbrev pub GivesOwn : UserState → Type 0
 GivesOwn asked =
-    ((((((asked.self_mute ≢ None) ⊎ (asked.self_deaf ≢ None)) ⊎ (asked.comment ≢ None)) ⊎ (asked.plugin_context ≢ None)) ⊎ (asked.recording ≢ None))
+    ((((((asked.self_mute ≢ None) ⊎ (asked.self_deaf ≢ None)) ⊎ (asked.comment ≢ None)) ⊎ (asked.plugin_context ≢ None))
+    ⊎ (asked.recording ≢ None))
     ⊎ (asked.listening_channel_add ≢ [])) ⊎ (asked.listening_channel_remove ≢ [])
 
 -- and is about another session
@@ -57,7 +55,8 @@ IsEmptyText message = ⊥
 
 abbrev pub AgainstHearing : StateValue → Option SessionId → UserMessage → Reason → Type 0
 AgainstHearing state actor message Gone = IsGone state actor message ⊎ (2 ^ 62 ≤ state.counts.revision)
-AgainstHearing state actor message NotLoggedIn = (actor ≡ None) × ((login : Authenticate) (version : Option ℕ) → message ≢ Join login version)
+AgainstHearing state actor message NotLoggedIn =
+    (actor ≡ None) × ((login : Authenticate) (version : Option ℕ) → message ≢ Join login version)
 AgainstHearing state actor message TooLong = 65000 < length (payload_of message)
 AgainstHearing state actor message NotThere = NamesNobody state message
 AgainstHearing state actor message OfAnother = IsOfAnother actor message
@@ -66,6 +65,8 @@ AgainstHearing state actor message reason = ⊥
 
 abbrev pub UserMessagesAreIgnoredForTheFirst : Type 0
 UserMessagesAreIgnoredForTheFirst =
-    (state : StateValue) (actor : Option SessionId) (message : UserMessage) (why : ℕ) → IsProper state → user_verdict state actor message ≡ Ignored why
+    (state : StateValue) (actor : Option SessionId) (message : UserMessage) (why : ℕ) → IsProper state
+    → user_verdict state actor message ≡ Ignored why
     → (reason : Reason) × (why ≡ number reason)
-    × IsFirst (AgainstHearing state actor message) (Gone ∷ NotLoggedIn ∷ TooLong ∷ NotThere ∷ OfAnother ∷ EmptyText ∷ []) reason
+    × IsFirst (AgainstHearing state actor message)
+    (Gone ∷ NotLoggedIn ∷ TooLong ∷ NotThere ∷ OfAnother ∷ EmptyText ∷ []) reason

@@ -4,16 +4,14 @@ use Rattle.std.specs.List.{All, Contains}
 use Rattle.sha2.specs.Sha256.{sha256}
 use Rattle.mum_base.specs.declared.outcome.RejectType.{RejectType}
 use Rattle.mum_base.specs.declared.outcome.RejectType.TheVariants.{InvalidUsername, ServerFull, UsernameInUse, WrongServerPW, WrongUserPW, WrongVersion}
-use Rattle.mum_msg_state.specs.declared.authenticate.Authenticate.{Authenticate}
 use Rattle.mum_users.specs.declared.user.User.{User}
-use Rattle.mum_state.specs.Proper.{is_name}
-use Rattle.mum_state.specs.State.{StateValue, account_named}
-use Rattle.mum_state.specs.declared.account.Account.{Account}
-use Rattle.mum_state.specs.declared.edit.Edit.{Edit}
+use Rattle.mum_part_laws.specs.Firsts.{IsFirst}
+use Rattle.mum_msg_state.specs.declared.authenticate.Authenticate.{Authenticate}
+use Rattle.mum_state.specs.{Proper.is_name, State.StateValue, State.account_named}
+use Rattle.mum_state.specs.declared.{account.Account.Account, edit.Edit.Edit}
 use Rattle.mum_state.specs.declared.verdict.Verdict.TheVariants.{Accepted, Rejected}
 use Rattle.mum_rules_user.specs.Verdict.{user_verdict}
 use Rattle.mum_rules_user.specs.declared.message.UserMessage.TheVariants.{Join}
-use Rattle.mum_part_laws.specs.Firsts.{IsFirst}
 
 -- the numbers of Reject.RejectType in Mumble.proto
 abbrev pub number : RejectType → ℕ
@@ -36,11 +34,15 @@ abbrev pub AgainstLogin : StateValue → Option ℕ → Authenticate → RejectT
 AgainstLogin state version login WrongVersion = (n : ℕ) × (version ≡ Some n) × (n < 66048)
 AgainstLogin state version login InvalidUsername = is_name (name_in login) ≡ false
 AgainstLogin state version login WrongUserPW =
-    (account : Account) × (account_named state (name_in login) ≡ Some account) × (sha256 (password_in login) ≢ account.digest)
+    (account : Account) × (account_named state (name_in login) ≡ Some account)
+    × (sha256 (password_in login) ≢ account.digest)
 AgainstLogin state version login WrongServerPW =
-    (account_named state (name_in login) ≡ None) × ((digest : List ℕ) × (state.server.password ≡ Some digest) × (sha256 (password_in login) ≢ digest))
-AgainstLogin state version login UsernameInUse = (user : User) × Contains state.roster.sessions user × (user.name ≡ name_in login)
-AgainstLogin state version login ServerFull = (state.roster.limit ≤ length state.roster.sessions) ⊎ (2 ^ 32 - 1 ≤ state.roster.last)
+    (account_named state (name_in login) ≡ None)
+    × ((digest : List ℕ) × (state.server.password ≡ Some digest) × (sha256 (password_in login) ≢ digest))
+AgainstLogin state version login UsernameInUse =
+    (user : User) × Contains state.roster.sessions user × (user.name ≡ name_in login)
+AgainstLogin state version login ServerFull =
+    (state.roster.limit ≤ length state.roster.sessions) ⊎ (2 ^ 32 - 1 ≤ state.roster.last)
 
 abbrev pub order : List RejectType
 order = WrongVersion ∷ InvalidUsername ∷ WrongUserPW ∷ WrongServerPW ∷ UsernameInUse ∷ ServerFull ∷ []
@@ -48,11 +50,13 @@ order = WrongVersion ∷ InvalidUsername ∷ WrongUserPW ∷ WrongServerPW ∷ U
 -- a rejection names the first
 abbrev pub RejectionsNameTheFirst : Type 0
 RejectionsNameTheFirst =
-    (state : StateValue) (login : Authenticate) (version : Option ℕ) (kind : ℕ) → user_verdict state None (Join login version) ≡ Rejected kind
+    (state : StateValue) (login : Authenticate) (version : Option ℕ) (kind : ℕ)
+    → user_verdict state None (Join login version) ≡ Rejected kind
     → (cause : RejectType) × (kind ≡ number cause) × IsFirst (AgainstLogin state version login) order cause
 
 -- and where one applies, nobody comes in
 abbrev pub NobodyComesAgainstOne : Type 0
 NobodyComesAgainstOne =
-    (state : StateValue) (login : Authenticate) (version : Option ℕ) (edit : Edit) → user_verdict state None (Join login version) ≡ Accepted edit
+    (state : StateValue) (login : Authenticate) (version : Option ℕ) (edit : Edit)
+    → user_verdict state None (Join login version) ≡ Accepted edit
     → All (λ cause. ¬ AgainstLogin state version login cause) order

@@ -1,17 +1,12 @@
 -- How much there is of each thing, at the most, by the numbers themselves.
 use Rattle.std.specs.Prelude.{◌≡◌, ◌≤◌, ◌<◌, ◌==◌, length, sum_by, Some}
 use Rattle.std.specs.List.{All, count_by}
-use Rattle.mum_base.specs.declared.number.ChannelId.{ChannelId}
-use Rattle.mum_base.specs.declared.number.SessionId.{SessionId}
+use Rattle.mum_base.specs.declared.number.{ChannelId.ChannelId, SessionId.SessionId}
 use Rattle.mum_policy.specs.declared.policy.ChannelPolicy.{ChannelPolicy}
 use Rattle.mum_tree.specs.Rows.{path}
-use Rattle.mum_users.specs.declared.target.TargetRow.{TargetRow}
-use Rattle.mum_users.specs.declared.user.User.{User}
-use Rattle.mum_state.specs.Applied.{applied}
-use Rattle.mum_state.specs.Proper.{IsProper}
-use Rattle.mum_state.specs.State.{StateValue}
-use Rattle.mum_state.specs.declared.edit.Edit.{Edit}
-use Rattle.mum_state.specs.declared.verdict.Verdict.TheVariants.{Accepted}
+use Rattle.mum_users.specs.declared.{target.TargetRow.TargetRow, user.User.User}
+use Rattle.mum_state.specs.{Applied.applied, Proper.IsProper, State.StateValue}
+use Rattle.mum_state.specs.declared.{edit.Edit.Edit, verdict.Verdict.TheVariants.Accepted}
 use Rattle.mum_rules_tree.specs.Verdict.{tree_verdict}
 use Rattle.mum_rules_tree.specs.declared.message.TreeMessage.{TreeMessage}
 use Rattle.mum_rules_user.specs.Verdict.{user_verdict}

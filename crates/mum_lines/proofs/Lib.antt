@@ -1,3 +1,5 @@
+mod Common
+pub mod Public
 pub mod LineFeeds
 pub mod Windows
 pub mod Readers

@@ -1,8 +1,5 @@
 -- Where the first line feed of bytes is.
-use Rattle.std.proofs.Common.{◌≡◌, ℕ, zero, suc, ◌+◌, ◌<◌, ◌≤◌, Bool, true, false, cond, ltb, not, List, [], ◌∷◌, ◌++◌, length, drop, Some, None, refl, ap, arith, length-drop}
-use Rattle.std.specs.Prelude.{position}
-use Rattle.std.specs.List.{position_or_len}
-use Rattle.std.proofs.lemmas.Bool.{ltb-true, ltb-false, lt-ltb, le-ltb}
+use Rattle.mum_lines.proofs.Common.{◌≡◌, ℕ, zero, suc, ◌+◌, ◌<◌, ◌≤◌, Bool, true, false, cond, ltb, not, List, [], ◌∷◌, ◌++◌, length, drop, Some, None, refl, ap, arith, length-drop, position, position_or_len, ltb-true, ltb-false, lt-ltb, le-ltb}
 
 module _ {X : Type 0} (p : X → Bool) where
   within-cons : (b : Bool) (n len : ℕ) → n ≤ len → cond (not b) (1 + n) 0 ≤ suc len
@@ -17,7 +14,7 @@ module _ {X : Type 0} (p : X → Bool) where
   longer-cons true n m h = omega arith
   longer-cons false n m h = omega arith
 
-  -- more behind makes no difference, or the first is later
+  -- what follows makes no difference, or the first is later
   pub first-longer : (xs ys : List X) → position_or_len p xs ≤ position_or_len p (xs ++ ys)
   first-longer [] ys = omega arith
   first-longer (x ∷ xs) ys = longer-cons (p x) (position_or_len p xs) (position_or_len p (xs ++ ys)) (first-longer xs ys)
@@ -44,7 +41,7 @@ module _ {X : Type 0} (p : X → Bool) where
   skip-cons true n m k h le = absurd (omega arith)
   skip-cons false n m k h le = let e = h (omega arith) in omega (arith, e)
 
-  -- where none is among the first k, it is found behind these
+  -- where none is among the first k, it is found after these
   pub first-skip : (k : ℕ) (xs : List X) → k ≤ position_or_len p xs → position_or_len p xs ≡ k + position_or_len p (drop k xs)
   first-skip zero xs le = omega arith
   first-skip (suc k) [] le = absurd (omega arith)
@@ -79,7 +76,7 @@ module _ {X : Type 0} (p : X → Bool) where
       let b = le-ltb (position_or_len p xs) (length xs) le in
       rw b refl
 
-  -- found behind the first k
+  -- found after the first k
   pub found-behind : (k : ℕ) (xs : List X) (i : ℕ) → k ≤ position_or_len p xs → k ≤ length xs → position p (drop k xs) ≡ Some i → position p xs ≡ Some (k + i)
   found-behind k xs i le in_range e =
       let f = found-at (drop k xs) i e in

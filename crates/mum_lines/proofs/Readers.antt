@@ -1,16 +1,5 @@
 -- What is read on, and the line that is found in it.
-use Rattle.std.proofs.Common.{◌≡◌, ℕ, ◌+◌, ◌-◌, ◌<◌, ◌≤◌, ◌⊎◌, List, ◌∷◌, ◌++◌, length, take, drop, get_or, Option, Some, None, refl, sym, ap, ◌∙◌, arith, inl, inr, append_assoc, length-append, take-append-drop}
-use Rattle.std.specs.Prelude.{position, IfSome}
-use Rattle.std.specs.List.{position_or_len}
-use Rattle.std.proofs.lemmas.Bool.{eqb-true, cases_lt}
-use Rattle.std.proofs.lemmas.List.{length-take-le, drop_more}
-use Rattle.std.proofs.lemmas.List.Sums.{passes_at_first}
-use Rattle.mum_io.specs.Outside.{Consumes, IsAtEnd, Keeps}
-use Rattle.mum_io.proofs.OutsideLemmas.{Consumes-kept, Consumes-trans}
-use Rattle.mum_record.specs.Lines.{is_line_feed}
-use Rattle.mum_record.specs.declared.split.TheConstants.{LINE_LIMIT}
-use Rattle.mum_lines.specs.Lines.{HasNoLineFeed, IsUnended, Parts, ReaderState, line_length}
-use Rattle.mum_lines.specs.Seeking.{ReadOn}
+use Rattle.mum_lines.proofs.Common.{◌≡◌, ℕ, ◌+◌, ◌-◌, ◌<◌, ◌≤◌, ◌⊎◌, List, ◌∷◌, ◌++◌, length, take, drop, get_or, Option, Some, None, refl, sym, ap, ◌∙◌, arith, inl, inr, append_assoc, length-append, take-append-drop, position, IfSome, position_or_len, eqb-true, cases_lt, length-take-le, drop_more, passes_at_first, Consumes, IsAtEnd, Keeps, Consumes-kept, Consumes-trans, is_line_feed, LINE_LIMIT, HasNoLineFeed, IsUnended, Parts, ReaderState, line_length, ReadOn}
 use Rattle.mum_lines.proofs.LineFeeds.{first-stays, found-at, found-none, is-none}
 
 -- bytes with a line feed have it when more are read
@@ -58,7 +47,7 @@ at_end_kept (Some x) None c taken consumed end keeps = absurd consumed
 at_end_kept (Some x) (Some y) None taken consumed end keeps = absurd keeps
 at_end_kept (Some x) (Some y) (Some z) taken consumed end keeps = keeps ∙ end
 
--- the bytes up to a line feed, it, and what is behind it
+-- the bytes up to a line feed, it, and what follows it
 cut_at : (bytes : List ℕ) (at : ℕ) → position is_line_feed bytes ≡ Some at → bytes ≡ take at bytes ++ 10 ∷ drop (at + 1) bytes
 cut_at bytes at found =
     let f = found-at is_line_feed bytes at found in

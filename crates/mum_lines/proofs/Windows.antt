@@ -1,7 +1,5 @@
 -- The bytes of a buffer from one place to another.
-use Rattle.std.proofs.Common.{◌≡◌, ℕ, ◌+◌, ◌-◌, ◌≤◌, List, ◌++◌, take, drop, slice_range, sym, ap, ◌∙◌, arith}
-use Rattle.std.proofs.lemmas.List.{drop-take, drop-drop}
-use lib.Seq.{take-add}
+use Rattle.mum_lines.proofs.Common.{◌≡◌, ℕ, ◌+◌, ◌-◌, ◌≤◌, List, ◌++◌, take, drop, slice_range, sym, ap, ◌∙◌, arith, drop-take, drop-drop, take-add}
 
 -- a later start drops the first bytes
 pub later : (xs : List ℕ) (start end count : ℕ) → start + count ≤ end → slice_range xs (start + count) end ≡ drop count (slice_range xs start end)
@@ -19,7 +17,7 @@ up_to xs start end ordered =
 pub same : (xs ys : List ℕ) (start end : ℕ) → start ≤ end → take end ys ≡ take end xs → slice_range ys start end ≡ slice_range xs start end
 same xs ys start end ordered front = sym (up_to ys start end ordered) ∙ ap (drop start) front ∙ up_to xs start end ordered
 
--- a later end has the bytes behind too
+-- a later end has the bytes after too
 pub grown : (xs ys : List ℕ) (start end n : ℕ) → start ≤ end → take end ys ≡ take end xs → slice_range ys start (end + n) ≡ slice_range xs start end ++ take n (drop end ys)
 grown xs ys start end n ordered front =
     let sum : end + n - start ≡ (end - start) + n = omega arith in

@@ -1,9 +1,8 @@
 -- What a reader of lines is once the bytes that it gave are let go.
+use mathlib.Core.Option.{none}
 use Rattle.std.specs.Prelude.{⊤}
 use Rattle.std.specs.Borrow.{follows_so, MutBor, Fml}
-use mathlib.Core.Option.{none}
-use Rattle.mum_lines.specs.Lines.{ReaderState}
-use Rattle.mum_lines.specs.contracts.reader.LineReader.{the_row}
+use Rattle.mum_lines.specs.{Lines.ReaderState, contracts.reader.LineReader.the_row}
 
 -- P holds of it then
 abbrev pub Leaves : MutBor ReaderState → (ReaderState → Type 0) → Fml

@@ -21,7 +21,7 @@ line_length bytes = position_or_len is_line_feed bytes
 abbrev pub begun : List ℕ → ℕ
 begun bytes = min (line_length bytes + 1) (length bytes)
 
--- the first line is above the greatest length, or the input, which may have so many bytes, passes that in it
+-- the first line is above the greatest length, or the input, which may have n bytes, passes that in it
 abbrev pub IsTooLong : ℕ → List ℕ → Type 0
 IsTooLong room bytes = (LINE_LIMIT < line_length bytes) ⊎ (room < begun bytes)
 
@@ -38,7 +38,7 @@ pub record ReaderState : Type 0 where
 abbrev pub at_start : ReaderState
 at_start = record { kept = []; room = INPUT_LIMIT; buffer = LINE_LIMIT + 1 }
 
--- a line of which this much was read has not ended, and is not too long yet for an input that may have so many bytes
+-- a line of which this much was read has not ended, and is not too long yet for an input that may have n bytes
 pub record IsUnended (line : List ℕ) (room : ℕ) : Type 0 where
   pub unended : HasNoLineFeed line
   pub short : length line ≤ LINE_LIMIT
@@ -66,7 +66,7 @@ pub record Parts (line : List ℕ) (old new : ReaderState) (left left_after : Op
   pub room : old.room ≡ length line + 1 + new.room
   pub buffer : new.buffer ≡ old.buffer
 
--- of a source that told its bytes none is left
+-- of a source that reported its bytes none is left
 abbrev pub IsExhausted : Option (List ℕ) → Option (List ℕ) → Type 0
 IsExhausted left left_after = IfSome left (λ bytes. IsAtEnd left_after)
 
@@ -76,11 +76,12 @@ abbrev pub GivesLine : LineEnd → ReaderState → ReaderState → Option (List 
 GivesLine (Line line) old new left left_after = Parts line.now old new left left_after
 GivesLine End old new left left_after = Reads old new left left_after × (new.kept ≡ []) × IsExhausted left left_after
 GivesLine (Rest rest) old new left left_after =
-    Reads old new left left_after × IsOpen new × (rest.now ≡ new.kept) × (rest.now ≡ [] → ⊥) × IsExhausted left left_after
+    Reads old new left left_after × IsOpen new × (rest.now ≡ new.kept) × (rest.now ≡ [] → ⊥)
+    × IsExhausted left left_after
 GivesLine TooLong old new left left_after = Reads old new left left_after × IsTooLong new.room new.kept
 GivesLine Failed old new left left_after = Reads old new left left_after × IsOpen new
 
--- a read that failed is told as one, and no other answer hides one
+-- a read that failed is reported as one, and no other answer hides one
 abbrev pub CountsLine : LineEnd → ℕ → ℕ → Type 0
 CountsLine Failed old new = Rose old new
 CountsLine others old new = new ≡ old

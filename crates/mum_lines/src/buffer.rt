@@ -48,7 +48,7 @@ fn line_feed_from(bytes: &[u8], scanned: usize) -> Option<usize>
     }
 }
 
-// Reads once, behind the first `end` bytes.
+// Reads once, after the first `end` bytes.
 fn read_behind<I: Source>(bytes: &mut Vec<u8>, end: usize, input: &mut I) -> ReadEnd
     requires { end < vec_len bytes.old }
     ensures len { vec_len bytes.new ≡ vec_len bytes.old }
@@ -94,7 +94,7 @@ impl Buffer {
         found
     }
 
-    // Drops the first `count` bytes and the line feed behind them, and answers where they are in the buffer.
+    // Drops the first `count` bytes and the line feed after them, and answers where they are in the buffer.
     pub(crate) fn drop_line(&mut self, count: usize) -> usize
         requires { count < length (kept_in self.old) }
         ensures inside { result + count ≤ vec_len self.new.bytes }
@@ -115,7 +115,7 @@ impl Buffer {
         &self.bytes[start..start + count]
     }
 
-    // Moves what is kept to the front, where there is no room behind it. A line moves once at most.
+    // Moves what is kept to the front, where there is no room after it. A line moves once at most.
     fn make_room(&mut self)
         requires { length (kept_in self.old) < BUFFER_LENGTH }
         ensures same { kept_in self.new ≡ kept_in self.old }
@@ -130,7 +130,7 @@ impl Buffer {
         self.end = end - start;
     }
 
-    // Reads once, behind what is kept.
+    // Reads once, after what is kept.
     pub(crate) fn read<I: Source>(&mut self, input: &mut I) -> ReadEnd
         requires { length (kept_in self.old) < BUFFER_LENGTH }
         ensures counts { ReadCounts result (I.faults input.old) (I.faults input.new) }

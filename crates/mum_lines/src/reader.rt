@@ -16,9 +16,9 @@ use std::marker::Model;
 pub enum LineEnd<'a> {
     /// A line, without its line feed.
     Line(&'a [u8]),
-    /// The end of the input, behind the line feed of its last line.
+    /// The end of the input, after the line feed of its last line.
     End,
-    /// The end of the input behind these bytes, at least one, which no line feed ends.
+    /// The end of the input after these bytes, at least one, which no line feed ends.
     Rest(&'a [u8]),
     /// A line of more than `LINE_LIMIT` bytes, or one in which the input passes `INPUT_LIMIT` bytes.
     TooLong,
@@ -49,7 +49,7 @@ impl Model for LineReader {
 
 // What a search for the next line feed came to.
 enum Sought {
-    // It is behind so many bytes.
+    // It is after n bytes.
     LineFeed(usize),
     // The input has none.
     End,
@@ -89,7 +89,7 @@ fn seek<I: Source>(buffer: &mut Buffer, room: usize, input: &mut I) -> Sought
     }
 }
 
-// The end of an input behind bytes that no line feed ends.
+// The end of an input after bytes that no line feed ends.
 fn ended(rest: &[u8]) -> LineEnd<'_>
     ensures { Ended rest.now result }
 {

@@ -1,12 +1,5 @@
 -- Who comes in at a door.
-use Rattle.std.proofs.Common.{◌≡◌, ℕ, ◌<◌, Bool, true, false, nat_lt, Option, Some, None, List, [], ◌++◌, refl, sym, ap, subst, ◌∙◌, arith}
-use Rattle.std.proofs.lemmas.Bool.{ltb-true}
-use Rattle.std.proofs.lemmas.List.{append-nil}
-use Rattle.mum_pace.specs.Arrivals.{ArrivalsState, arrivals_at, counts_one, state_of}
-use Rattle.mum_pace.specs.Meters.{room}
-use Rattle.mum_pace.specs.declared.arrivals.Arrivals.{Arrivals}
-use Rattle.mum_link.specs.Comings.{CountsOne, HaveRoom, LetsIn}
-use Rattle.mum_link.specs.Wires.{taken}
+use Rattle.mum_link.proofs.Common.{◌≡◌, ℕ, ◌<◌, Bool, true, false, nat_lt, Option, Some, None, List, [], ◌++◌, refl, sym, ap, subst, ◌∙◌, arith, ltb-true, append-nil, ArrivalsState, arrivals_at, counts_one, state_of, room, Arrivals, CountsOne, HaveRoom, LetsIn, taken}
 
 nobody : (answer : Bool) (now : ℕ) (old new : Option Arrivals) → HaveRoom answer now old new → LetsIn false now old new
 nobody answer now None new may = may.1

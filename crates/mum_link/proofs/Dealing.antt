@@ -1,9 +1,5 @@
 -- Each role is in the lane of its thread.
-use Rattle.std.proofs.Common.{◌≡◌, ℕ, zero, suc, ◌+◌, ◌<◌, ◌==◌, Bool, true, false, List, [], ◌∷◌, ◌++◌, length, refl, sym, ap, subst, ◌∙◌, arith, slice_index_or, if◌then◌else◌}
-use Rattle.std.specs.List.{Contains}
-use Rattle.std.proofs.lemmas.Bool.{eq-eqb}
-use Rattle.std.proofs.lemmas.List.Elements.{Contains-append_left, Contains-append_right}
-use Rattle.mum_crew.specs.Deal.{IsDealt, hand}
+use Rattle.mum_link.proofs.Common.{◌≡◌, ℕ, zero, suc, ◌+◌, ◌<◌, ◌==◌, Bool, true, false, List, [], ◌∷◌, ◌++◌, length, refl, sym, ap, subst, ◌∙◌, arith, slice_index_or, if◌then◌else◌, Contains, eq-eqb, Contains-append_left, Contains-append_right, IsDealt, hand}
 
 here : (test : Bool) (x : ℕ) → test ≡ true → Contains (if test then x ∷ [] else []) x
 here true x e = (0, omega arith, refl)

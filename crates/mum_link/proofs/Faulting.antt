@@ -1,18 +1,6 @@
 -- What keeps the cause of a fault true.
-use Rattle.std.proofs.Common.{◌≡◌, ℕ, zero, suc, ◌<◌, ◌∙◌, not, nat_lt, subst, Bool, true, false, Result, Ok, Err, Option, Some, None, is_some, unwrap_or, ◌⊎◌, inl, inr, refl, sym, ap, arith}
-use Rattle.std.proofs.lemmas.Bool.{lt-ltb, ltb-true}
-use Rattle.std.specs.Option.{ForSome}
-use Rattle.mum_io.specs.Counts.{Rose}
-use Rattle.mum_io.specs.declared.link.PollWrite.{PollWrite}
+use Rattle.mum_link.proofs.Common.{◌≡◌, ℕ, zero, suc, ◌<◌, ◌∙◌, not, nat_lt, subst, Bool, true, false, Result, Ok, Err, Option, Some, None, is_some, unwrap_or, ◌⊎◌, inl, inr, refl, sym, ap, arith, lt-ltb, ltb-true, ForSome, Rose, PollWrite, has_waited, waits_since, error_kind, ErrorKind, Error, Closes, CountsFailedRead, CountsFailedWrite, CountsOneIf, IsBroken, Stays, has_cause, is_of_shut, is_passing, Fault, Call, TookNothing, LeftBehind, Stop, Shut, Patience}
 use Rattle.mum_io.specs.declared.link.PollWrite.TheVariants as write
-use Rattle.mum_pace.specs.Waits.{has_waited, waits_since}
-use Rattle.std.specs.IoError.{error_kind}
-use Rattle.std.specs.declared.io.ErrorKind.{ErrorKind}
-use Rattle.std.specs.declared.io.Error.{Error}
-use Rattle.mum_link.specs.Faults.{Closes, CountsFailedRead, CountsFailedWrite, CountsOneIf, IsBroken, Stays, has_cause, is_of_shut, is_passing}
-use Rattle.mum_link.specs.declared.fault.Fault.{Fault}
-use Rattle.mum_link.specs.declared.fault.Fault.TheVariants.{Call, TookNothing, LeftBehind, Stop, Shut}
-use Rattle.mum_link.specs.declared.patience.Patience.{Patience}
 
 -- a count that rose is not 0
 pub rose_above : (old new : ℕ) → Rose old new → 0 < new

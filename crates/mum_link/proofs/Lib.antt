@@ -1,3 +1,4 @@
+mod Common
 pub mod Coming
 pub mod Dealing
 pub mod Faulting

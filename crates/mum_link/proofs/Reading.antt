@@ -1,10 +1,5 @@
 -- What was read of a connection, and how it comes in.
-use Rattle.std.proofs.Common.{◌≡◌, ℕ, true, List, [], ◌++◌, Option, Some, None, unwrap_or, refl, sym, ap, subst, ◌∙◌}
-use Rattle.std.specs.Option.{ForSome, option_map}
-use Rattle.std.specs.Io.KnownBytes.{Consumes, Keeps, prepend_known}
-use Rattle.std.proofs.KnownBytes.{Consumes-kept, Consumes-trans}
-use Rattle.mum_address.specs.Header.{IsHeader}
-use Rattle.mum_link.specs.Origins.{ComesIn, HasRead, Origin}
+use Rattle.mum_link.proofs.Common.{◌≡◌, ℕ, true, List, [], ◌++◌, Option, Some, None, unwrap_or, refl, sym, ap, subst, ◌∙◌, ForSome, option_map, Consumes, Keeps, prepend_known, Consumes-kept, Consumes-trans, IsHeader, ComesIn, HasRead, Origin}
 
 known : (all left : Option (List ℕ)) (bytes : List ℕ) → Consumes all left bytes → ForSome all (λ xs. prepend_known bytes left ≡ Some xs)
 known None left bytes took = λ xs e. absurd cc
@@ -38,7 +33,7 @@ pub named_address : {A B : Type 0} (f : A → B) (named : Option A) (peer : A) �
 named_address f None peer = refl
 named_address f (Some one) peer = refl
 
--- a connection behind whose header nothing was read
+-- a connection after whose header nothing was read
 pub comes_behind : (origin next : Origin) (left rest named : Option (List ℕ)) (header address given : List ℕ) → HasRead origin left header address → IsHeader header named
     → next ≡ origin → Keeps left rest → given ≡ unwrap_or named address → ComesIn true next rest given
 comes_behind origin next left rest named header address given has is same keeps e =

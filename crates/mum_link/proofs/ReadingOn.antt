@@ -1,8 +1,5 @@
 -- Reading on, step by step.
-use Rattle.std.proofs.Common.{◌≡◌, ℕ, List, [], ◌++◌, append_assoc, append-nil, ap, sym, ◌∙◌, refl}
-use Rattle.std.specs.Prelude.{Option, Some, None}
-use Rattle.std.specs.Io.KnownBytes.{Consumes}
-use Rattle.mum_link.specs.Reads.{ReadsOn}
+use Rattle.mum_link.proofs.Common.{◌≡◌, ℕ, List, [], ◌++◌, append_assoc, append-nil, ap, sym, ◌∙◌, refl, Option, Some, None, Consumes, ReadsOn}
 
 -- nothing was read
 pub reads_none : (reader : List ℕ) (left : Option (List ℕ)) → ReadsOn reader reader left left

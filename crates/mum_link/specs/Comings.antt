@@ -1,7 +1,6 @@
 -- How fast connections come in.
 use Rattle.std.specs.Prelude.{◌≡◌, ℕ, ◌<◌, Bool, true, false, Option, Some, None, nat_lt}
-use Rattle.mum_pace.specs.Arrivals.{arrivals_at, counts_one, state_of}
-use Rattle.mum_pace.specs.Meters.{room}
+use Rattle.mum_pace.specs.{Arrivals.arrivals_at, Arrivals.counts_one, Arrivals.state_of, Meters.room}
 use Rattle.mum_pace.specs.declared.arrivals.Arrivals.{Arrivals}
 
 -- at this time the rate has room for one more, or it has not; where there is no rate, there is room

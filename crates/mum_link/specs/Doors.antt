@@ -1,10 +1,9 @@
 -- What a door over a listener is opened at, and what it gives.
 use Rattle.std.specs.Prelude.{◌≡◌, ℕ, Bool, true, false, List, Option, Some, None}
 use Rattle.mum_address.specs.Address.{SaysHeaders}
-use Rattle.mum_io.specs.declared.door.Accept.{Accept}
-use Rattle.mum_io.specs.declared.door.Accept.TheVariants as accepted
-use Rattle.mum_io.specs.declared.door.DoorOpen.{DoorOpen}
+use Rattle.mum_io.specs.declared.door.{Accept.Accept, DoorOpen.DoorOpen}
 use Rattle.mum_io.specs.declared.door.DoorOpen.TheVariants.{Opened, Failed}
+use Rattle.mum_io.specs.declared.door.Accept.TheVariants as accepted
 
 -- it listens at this address from now on, or at the one before
 abbrev pub ListensAt : Bool → Option (List ℕ) → Option (List ℕ) → List ℕ → Type 0

@@ -1,18 +1,15 @@
 -- Why no byte goes over a link any more, and why a door ends.
 use Rattle.std.specs.Prelude.{◌≡◌, ℕ, ◌<◌, nat_lt, Bool, true, false, not, Option, Some, None, is_some, IsTrue, Result, Ok, Err}
 use Rattle.std.specs.IoError.{error_kind}
-use Rattle.std.specs.declared.io.ErrorKind.{ErrorKind}
-use Rattle.std.specs.declared.io.ErrorKind.TheVariants.{WouldBlock, Interrupted}
+use Rattle.std.specs.declared.io.ErrorKind.{ErrorKind, TheVariants.WouldBlock, TheVariants.Interrupted}
 use Rattle.std.specs.declared.io.Error.{Error}
+use Rattle.mum_pace.specs.Waits.{has_waited}
 use Rattle.mum_io.specs.Counts.{Rose}
 use Rattle.mum_io.specs.declared.door.Accept.{Accept}
-use Rattle.mum_io.specs.declared.door.Accept.TheVariants as accepted
-use Rattle.mum_pace.specs.Waits.{has_waited}
 use Rattle.mum_link.specs.Timely.{has_run_out}
-use Rattle.mum_link.specs.declared.hub.Ending.{Ending}
-use Rattle.mum_link.specs.declared.fault.Fault.{Fault}
+use Rattle.mum_link.specs.declared.{hub.Ending.Ending, fault.Fault.Fault, patience.Patience.Patience}
 use Rattle.mum_link.specs.declared.fault.Fault.TheVariants.{Call, TookNothing, LeftBehind, Stop, Shut}
-use Rattle.mum_link.specs.declared.patience.Patience.{Patience}
+use Rattle.mum_io.specs.declared.door.Accept.TheVariants as accepted
 
 -- ---- calls that fail
 

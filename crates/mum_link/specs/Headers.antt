@@ -1,15 +1,14 @@
 -- Connections that wait for their headers: who is taken out from among them, and whose a link is.
 use Rattle.std.specs.Prelude.{◌≡◌, ℕ, List, Option, Some, None, slice_get, remove}
-use Rattle.std.specs.Option.{ForSome}
-use Rattle.std.specs.Io.KnownBytes.{Keeps}
-use Rattle.mum_address.specs.Header.{IsHeader, plain}
-use Rattle.mum_address.specs.Header.Reading.{whole}
+use Rattle.std.specs.{Option.ForSome, Io.KnownBytes.Keeps}
+use Rattle.mum_address.specs.Header.{IsHeader, plain, Reading.whole}
 use Rattle.mum_address.specs.declared.proxy.Header.{Header}
 use Rattle.mum_io.specs.Counts.{next_count}
 
--- where the answer is that the header is whole, who waits there holds it, and it tells that address or none
+-- where the answer is that the header is whole, who waits there holds it, and it gives that address or none
 abbrev pub HoldsAnswer : {W : Type 0} → (W → List ℕ) → Header → Option W → Type 0
-HoldsAnswer reader answer waiting = (told : Option (List ℕ)) → plain answer ≡ whole told → ForSome waiting (λ w. IsHeader (reader w) told)
+HoldsAnswer reader answer waiting =
+    (told : Option (List ℕ)) → plain answer ≡ whole told → ForSome waiting (λ w. IsHeader (reader w) told)
 
 -- the socket is that of the one who waited, with what was left to be read
 abbrev pub IsOf : {S W : Type 0} → (S → Option (List ℕ)) → (W → S) → S → Option W → Type 0

@@ -1,12 +1,10 @@
 -- How fast a link is read, and what it holds of the allowance for long frames.
 use Rattle.std.specs.Prelude.{◌≡◌, ℕ, List, take}
+use Rattle.mum_pace.specs.{Laws.IsAsked, Laws.IsReadInPace, Meters.MeterState, Meters.new_meter}
+use Rattle.mum_pace.specs.{Places.payload_under_way, Reserved.bytes_for, Reserved.bytes_kept}
+use Rattle.mum_pace.specs.declared.pace.Pace.{Pace}
 use Rattle.mum_io.specs.declared.link.PollRead.{PollRead}
 use Rattle.mum_io.specs.declared.link.PollRead.TheVariants.{End, Failed, Got, NotYet}
-use Rattle.mum_pace.specs.Laws.{IsAsked, IsReadInPace}
-use Rattle.mum_pace.specs.Meters.{MeterState, new_meter}
-use Rattle.mum_pace.specs.Places.{payload_under_way}
-use Rattle.mum_pace.specs.Reserved.{bytes_for, bytes_kept}
-use Rattle.mum_pace.specs.declared.pace.Pace.{Pace}
 
 -- a meter of this pace, at which nothing came yet
 abbrev pub IsNew : Pace → MeterState → Type 0
@@ -22,7 +20,8 @@ ReadsInPace Failed buf old new = IsAsked old new
 -- Bytes come only while the link holds all that the frame under way reserves. It holds that still, if they do not end the
 -- frame, and else nothing.
 abbrev pub HoldsForFrame : PollRead → MeterState → MeterState → ℕ → Type 0
-HoldsForFrame (Got n) old new held = held ≡ bytes_kept (bytes_for (payload_under_way old.place)) (payload_under_way new.place)
+HoldsForFrame (Got n) old new held =
+    held ≡ bytes_kept (bytes_for (payload_under_way old.place)) (payload_under_way new.place)
 HoldsForFrame End old new held = Unit {0}
 HoldsForFrame NotYet old new held = Unit {0}
 HoldsForFrame Failed old new held = Unit {0}

@@ -3,11 +3,11 @@ use Rattle.std.specs.Prelude.{◌≡◌, ℕ, ◌+◌, ◌-◌, ◌%◌, ◌<◌
 use Rattle.mum_crew.specs.Deal.{needed_threads, thread_at}
 use Rattle.mum_link.specs.declared.shares.Shares.{Shares}
 
--- how many threads so many roles behind the workers have
+-- how many threads n roles after the workers have
 abbrev pub later_threads : ℕ → ℕ
 later_threads count = if nat_lt 0 count then 1 else 0
 
--- where there is a thread for the owner, one for workers, and one for the roles behind them, if there are any, somebody shares
+-- where there is a thread for the owner, one for workers, and one for the roles after them, if there are any, somebody shares
 -- the workers, and the threads are enough for all roles
 abbrev pub IsEnough : ℕ → ℕ → ℕ → ℕ → ℕ → Type 0
 IsEnough threads later workers spread roles =

@@ -1,7 +1,6 @@
 -- How long a link waits for a peer that takes nothing.
 use Rattle.std.specs.Prelude.{◌≡◌, ℕ, ◌-◌, nat_le, Bool, false, Option, Some, None}
-use Rattle.mum_io.specs.declared.link.PollWrite.{PollWrite}
-use Rattle.mum_io.specs.declared.link.PollWrite.TheVariants.{Took, NotYet, Failed}
+use Rattle.mum_io.specs.declared.link.PollWrite.{PollWrite, TheVariants.Took, TheVariants.NotYet, TheVariants.Failed}
 use Rattle.mum_link.specs.declared.patience.Patience.{Patience}
 
 -- it has taken nothing for so long, since then, where there is a limit

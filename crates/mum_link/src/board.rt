@@ -1,4 +1,4 @@
-//! What the links and the station of one thread tell each other.
+//! What the links and the station of one thread report to each other.
 
 use std::sync::atomic::{AtomicBool, AtomicU64, Ordering};
 

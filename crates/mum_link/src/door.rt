@@ -114,7 +114,8 @@ impl<S: Socket + Send, L: Listener<Socket = S>> Door for SocketDoor<L, S> {
             (S.left link.wire.line.socket) (ipv6_octets link.address)) }
         ensures pace { ForConn result (λ link. IsNew self.old.entrance.step.pace (state_of link.wire.meter)) }
         // The thread of its worker watches it, if the links of the door are shared out.
-        ensures watched { ForConn result (λ link. IsWatched self.old.entrance.step.is_shared self.old.entrance.step.thread
+        ensures watched { ForConn result
+            (λ link. IsWatched self.old.entrance.step.is_shared self.old.entrance.step.thread
             self.new.given (S.watched link.wire.line.socket)) }
     {
         if self.opened_at.is_none() {

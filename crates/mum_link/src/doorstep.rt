@@ -2,18 +2,18 @@
 
 ghost use Rattle.std.specs.Prelude.{◌≡◌, None, Some, false, true};
 
-use crate::hub::{LINK_LIMIT, VIEW_LIMIT};
+use crate::hub::{USER_LINK_LIMIT, VIEW_LINK_LIMIT};
 use mum_pace::{Pace, Rate};
 
 /// The thread of the users' door, the first of the crew.
 pub const DOOR_THREAD: usize = 0;
 
-/// The slots of the listeners, behind those of all links.
-const DOOR_SLOT: usize = LINK_LIMIT + VIEW_LIMIT;
+// The slots of the listeners, after those of all links.
+const DOOR_SLOT: usize = USER_LINK_LIMIT + VIEW_LINK_LIMIT;
 
 const VIEW_DOOR_SLOT: usize = DOOR_SLOT + 1;
 
-/// How long a view's link waits for a peer that takes nothing, in milliseconds.
+// How long a view's link waits for a peer that takes nothing, in milliseconds.
 pub(crate) const VIEW_PATIENCE: u64 = 10_000;
 
 /// Where a door and its links are, and how these come in and write.
@@ -21,7 +21,7 @@ pub(crate) const VIEW_PATIENCE: u64 = 10_000;
 pub struct Doorstep {
     /// The slot of its listener.
     pub slot: usize,
-    /// The first slot of its links, and the one behind the last.
+    /// The first slot of its links, and the one after the last.
     pub first: usize,
     pub end: usize,
     /// The thread that asks it.
@@ -50,14 +50,15 @@ impl Doorstep {
     /// Of the door for users, whose links are those of the workers.
     pub fn of_users(pace: Pace) -> Doorstep
         ensures slots { (result.slot ≡ 1104) × (result.first ≡ 0) × (result.end ≡ 1024) }
-        ensures links { (result.is_shared ≡ true) × (result.delivery.in_batches ≡ true) × (result.delivery.patience ≡ None) }
+        ensures links { (result.is_shared ≡ true) × (result.delivery.in_batches ≡ true)
+            × (result.delivery.patience ≡ None) }
         ensures comings { (result.rate ≡ None) × (result.pace ≡ pace) × (result.ends_with_owner ≡ false) }
         ensures thread { result.thread ≡ 0 }
     {
         Doorstep {
             slot: DOOR_SLOT,
             first: 0,
-            end: LINK_LIMIT,
+            end: USER_LINK_LIMIT,
             thread: DOOR_THREAD,
             is_shared: true,
             rate: None,
@@ -74,13 +75,15 @@ impl Doorstep {
     /// ever; at most ten a second come in, twenty at once.
     pub fn of_views(thread: usize) -> Doorstep
         ensures slots { (result.slot ≡ 1105) × (result.first ≡ 1024) × (result.end ≡ 1104) }
-        ensures links { (result.is_shared ≡ false) × (result.delivery.in_batches ≡ false) × (result.delivery.patience ≡ Some 10000) }
-        ensures comings { (result.rate ≡ Some (record { each_second = 10; at_once = 20 })) × (result.ends_with_owner ≡ true) }
+        ensures links { (result.is_shared ≡ false) × (result.delivery.in_batches ≡ false)
+            × (result.delivery.patience ≡ Some 10000) }
+        ensures comings { (result.rate ≡ Some (record { each_second = 10; at_once = 20 }))
+            × (result.ends_with_owner ≡ true) }
         ensures thread { result.thread ≡ thread }
     {
         Doorstep {
             slot: VIEW_DOOR_SLOT,
-            first: LINK_LIMIT,
+            first: USER_LINK_LIMIT,
             end: DOOR_SLOT,
             thread,
             is_shared: false,

@@ -1,4 +1,4 @@
-//! How connections come in: from a listener, behind the header of a relay where there is one, to the thread of the worker
+//! How connections come in: from a listener, after the header of a relay where there is one, to the thread of the worker
 //! that gets them.
 
 ghost use Rattle.std.specs.Prelude.{◌≡◌, ℕ, ◌<◌, ◌≤◌, ◌==◌, [], None, Some, false, true, not, IfOk, MatchOption, IfSome, is_some, slice_get, string_bytes, unwrap_or, vec_len};
@@ -35,13 +35,13 @@ use std::mem::replace;
 use std::net::Ipv6Addr;
 use std::sync::Arc;
 
-/// How many connections may wait for their headers.
+// How many connections may wait for their headers.
 pub(crate) const WAITING_LIMIT: usize = 64;
 
-/// After how many milliseconds a listener that had no descriptor or no slot is asked again.
+// After how many milliseconds a listener that had no descriptor or no slot is asked again.
 const PAUSE: u64 = 1000;
 
-/// How many connections are taken from the listener in one call, and how often it is asked for one.
+// How many connections are taken from the listener in one call, and how often it is asked for one.
 const ARRIVALS: usize = 256;
 
 const ATTEMPTS: usize = 16;
@@ -62,7 +62,7 @@ struct Stuck {
     since: u64,
 }
 
-/// A listener, those who wait behind it, and the boards of the crew's threads.
+/// A listener, those who wait at it, and the boards of the crew's threads.
 #[derive(Drop)]
 pub struct Entrance<L, S: Socket> {
     alloc: Global,
@@ -91,7 +91,7 @@ fn arrivals_of(rate: Option<Rate>) -> Option<Arrivals>
 }
 
 impl<L, S: Socket> Entrance<L, S> {
-    /// Behind this listener, which is still to be opened.
+    /// Over this listener, which is still to be opened.
     pub fn new(
         alloc: Global,
         hub: Arc<Hub>,
@@ -463,7 +463,8 @@ impl<S: Socket, L: Listener<Socket = S>> Entrance<L, S> {
 
     // What has come of the header of who waits at this place. None: nobody does.
     fn read_waiting(&mut self, place: usize) -> Option<Header>
-        ensures answer { ForSome result (λ answer. HoldsAnswer (λ w. w.reader) answer (slice_get self.new.waiting.items place)) }
+        ensures answer { ForSome result
+            (λ answer. HoldsAnswer (λ w. w.reader) answer (slice_get self.new.waiting.items place)) }
         ensures has_headers { self.new.has_headers ≡ self.old.has_headers }
         ensures step { self.new.step ≡ self.old.step }
         ensures arrivals { self.new.arrivals ≡ self.old.arrivals }
@@ -484,7 +485,8 @@ impl<S: Socket, L: Listener<Socket = S>> Entrance<L, S> {
     ) -> Option<SocketLink<S>>
         requires { ForSome (slice_get self.old.waiting.items place)
             (λ waiting. IsHeader waiting.reader (option_map ipv6_octets client)) }
-        ensures same { ForSome result (λ link. IsOf S.left (λ w. w.socket) link.wire.line.socket (slice_get self.old.waiting.items place)) }
+        ensures same { ForSome result
+            (λ link. IsOf S.left (λ w. w.socket) link.wire.line.socket (slice_get self.old.waiting.items place)) }
         ensures address { ForSome result (λ link. ForSome (slice_get self.old.waiting.items place)
             (λ waiting. link.address ≡ unwrap_or client waiting.address)) }
         ensures taken { TakesOut place self.old.waiting.items self.new.waiting.items (slice_get self.old.waiting.items place) }

@@ -11,13 +11,13 @@ use std::sync::Arc;
 use std::sync::atomic::{AtomicBool, AtomicU32, AtomicU64, Ordering};
 
 /// The most links of users, those among them that wait for their header.
-pub const LINK_LIMIT: usize = 1024;
+pub const USER_LINK_LIMIT: usize = 1024;
 
 /// The most links at the door for views: those of open views, and those that wait for their header.
-pub const VIEW_LIMIT: usize = 16 + 64;
+pub const VIEW_LINK_LIMIT: usize = 16 + 64;
 
 /// How many slots there are: one for each link, and one for the listener of each door.
-pub const SLOT_LIMIT: usize = LINK_LIMIT + VIEW_LIMIT + 2;
+pub const SLOT_LIMIT: usize = USER_LINK_LIMIT + VIEW_LINK_LIMIT + 2;
 
 /// The most threads, each of which has a bit of a word.
 pub const THREAD_LIMIT: usize = 64;
@@ -57,10 +57,10 @@ fn bit(thread: usize) -> u64 {
     1u64 << (thread % THREAD_LIMIT)
 }
 
-/// How many numbers a spread may be. The workers and the spread are in one word, so whoever reads it has both of one time.
+// How many numbers a spread may be. The workers and the spread are in one word, so whoever reads it has both of one time.
 const SPREADS: u64 = 0x1_0000;
 
-/// The most workers that find room there.
+// The most workers that find room there.
 const WORKERS: u64 = 0xffff_ffff;
 
 fn word_of(shares: Shares) -> u64
@@ -164,7 +164,7 @@ impl Hub {
         }
     }
 
-    /// The threads that are to be woken by this one, which it alone then wakes. The roles behind the workers have no news for
+    /// The threads that are to be woken by this one, which it alone then wakes. The roles after the workers have no news for
     /// others, but for an owner that waits for one of them; and of the news of others they may ask to hear of the owner's.
     pub fn take_sleepers(&self, thread: usize, with_owner: bool) -> Sleepers {
         if self.is_later(thread) {
@@ -191,7 +191,7 @@ impl Hub {
         }
     }
 
-    /// Whether the thread is that of the roles behind the workers.
+    /// Whether the thread is that of the roles after the workers.
     pub fn is_later(&self, thread: usize) -> bool {
         self.later.load(Ordering::SeqCst) == bit(thread)
     }
@@ -284,9 +284,10 @@ impl Hub {
         self.has_owner_ended.load(Ordering::SeqCst)
     }
 
-    /// So many threads are to share so many roles. The last is that of the roles behind the workers, where there are any.
+    /// m threads are to share n roles. The last is that of the roles after the workers, where there are any.
     pub fn share(&self, roles: usize, threads: usize, later: LaterRoles) -> Shares
-        ensures { (result.workers ≡ roles - later.count - 1) × IsEnough threads later.count result.workers result.spread roles }
+        ensures { (result.workers ≡ roles - later.count - 1)
+            × IsEnough threads later.count result.workers result.spread roles }
     {
         let shares = Shares::of(roles, threads, later);
         let last = threads.saturating_sub(1);

@@ -85,7 +85,7 @@ impl Kept {
         }
     }
 
-    /// So many were sent.
+    /// This many were sent.
     pub fn pass(&mut self, count: usize)
         requires { count ≤ length self.old }
         ensures { self.new ≡ drop count self.old }

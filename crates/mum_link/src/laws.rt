@@ -16,7 +16,7 @@ use crate::link::SocketLink;
 use crate::socket::Socket;
 use crate::waiting::PATIENCE;
 
-/// The numbers for which the names of limits stand, in bytes, connections and milliseconds.
+/// The numbers that the names of limits stand for, in bytes, connections and milliseconds.
 pub fn limits()
     ensures kept { KEPT_LIMIT ≡ 8192 }
     ensures waiting { WAITING_LIMIT ≡ 64 }

@@ -1,6 +1,6 @@
 //! Links over any sockets whose calls do not wait: how they come in, which bytes they read and send, in which order, and
-//! when. What a link knows of its socket, and what it tells the thread that it is on, goes over flags that threads share:
-//! those of its slot in the hub, and those of its thread's board.
+//! when. What a link knows of its socket, and what it reports to the thread that it is on, goes over flags that
+//! threads share: those of its slot in the hub, and those of its thread's board.
 #![tactic(auto)]
 
 mod board;

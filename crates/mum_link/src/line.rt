@@ -18,7 +18,7 @@ use mum_io::{PollRead, PollWrite};
 use mum_pace::HangUp;
 use std::io::ErrorKind;
 
-/// A socket, the place of its link, and how many bytes went over it.
+// A socket, the place of its link, and how many bytes went over it.
 #[derive(Drop)]
 pub(crate) struct Line<S: Socket> {
     pub(crate) socket: S,
@@ -34,7 +34,7 @@ pub(crate) struct Line<S: Socket> {
 }
 
 impl<S: Socket> Line<S> {
-    /// A line over which nothing went yet.
+    // A line over which nothing went yet.
     pub(crate) fn new(socket: S, seat: Seat, patience: Patience) -> Line<S>
         ensures socket { result.socket ≡ socket }
         ensures patience { result.patience ≡ patience }
@@ -52,7 +52,7 @@ impl<S: Socket> Line<S> {
         }
     }
 
-    /// Whether no byte goes over it any more: it has a fault, or the server stops, which is one from then on.
+    // Whether no byte goes over it any more: it has a fault, or the server stops, which is one from then on.
     #[tactic(auto, using(crate::proofs::Faulting::none_before, crate::proofs::Faulting::stays_same, crate::proofs::Faulting::broken_is))]
     pub(crate) fn is_over(&mut self) -> bool
         ensures over { result ≡ true → IsBroken self.new.fault }
@@ -67,7 +67,7 @@ impl<S: Socket> Line<S> {
         self.fault.is_some()
     }
 
-    /// It carries no byte any more, for this cause, or an earlier one.
+    // It carries no byte any more, for this cause, or an earlier one.
     #[tactic(auto, using(crate::proofs::Faulting::stays_first, crate::proofs::Faulting::cause_first))]
     pub(crate) fn fail(&mut self, fault: Fault)
         requires cause { has_cause fault (S.failures self.old.socket) self.old.patience self.old.hang_up.since ≡ true }
@@ -80,7 +80,7 @@ impl<S: Socket> Line<S> {
         self.fault = Some(self.fault.unwrap_or(fault));
     }
 
-    /// Reads what has come. The flag is left where there may be more: the system reports no change of that.
+    // Reads what has come. The flag is left where there may be more: the system reports no change of that.
     #[tactic(auto, using(crate::proofs::Faulting::stays_same, crate::proofs::Faulting::causes_after_read, crate::proofs::Faulting::read_has_failed))]
     pub(crate) fn read(&mut self, buf: &mut [u8]) -> PollRead
         requires { 0 < length buf.old }
@@ -125,9 +125,9 @@ impl<S: Socket> Line<S> {
         PollRead::NotYet
     }
 
-    /// No byte may be read now, by the pace or because a long frame finds no room beside those of other links. What a
-    /// client that has hung up left behind is not waited for for long: else it would keep its slot. It is lost then, and
-    /// so the line fails.
+    // No byte may be read now, by the pace or because a long frame finds no room beside those of other links. What a
+    // client that has hung up left behind is not waited for for long: else it would keep its slot. It is lost then, and
+    // so the line fails.
     #[tactic(auto, using(crate::proofs::Faulting::stays_same, crate::proofs::Faulting::none_wants_a_cause, crate::proofs::Faulting::waited_still))]
     pub(crate) fn wait_to_read(&mut self) -> PollRead
         requires { self.old.fault ≡ None }
@@ -146,8 +146,8 @@ impl<S: Socket> Line<S> {
         PollRead::NotYet
     }
 
-    /// Writes a front of the piece, where there may be room, at this time in milliseconds. A peer that has taken nothing for
-    /// too long has the line fail.
+    // Writes a front of the piece, where there may be room, at this time in milliseconds. A peer that has taken nothing for
+    // too long has the line fail.
     #[tactic(auto, using(crate::proofs::Faulting::stays_same, crate::proofs::Faulting::stays_on, crate::proofs::Faulting::none_wants_a_cause, crate::proofs::Faulting::none_is, crate::proofs::Faulting::not_broken, crate::proofs::Faulting::broken_is))]
     pub(crate) fn write(&mut self, piece: &[u8], milliseconds: u64) -> PollWrite
         ensures written { PollWriteLeaves result (S.written self.old.socket) (S.written self.new.socket) piece.now }
@@ -253,14 +253,16 @@ impl<S: Socket> Line<S> {
         PollWrite::Failed
     }
 
-    /// Writes a front of the piece, whether the socket was reported to have room or not. How many bytes it took. None: it
-    /// took nothing.
+    // Writes a front of the piece, whether the socket was reported to have room or not. How many bytes it took. None: it
+    // took nothing.
     #[tactic(auto, using(crate::proofs::Faulting::causes_after_write))]
     pub(crate) fn press(&mut self, piece: &[u8]) -> Option<usize>
         requires { 0 < length piece.now }
         ensures written { MatchOption result
-            (Keeps (S.written self.old.socket) (S.written self.new.socket) × Rose (S.refusals self.old.socket) (S.refusals self.new.socket))
-            (λ count. (0 < count) × (count ≤ length piece.now) × (S.refusals self.new.socket ≡ S.refusals self.old.socket)
+            (Keeps (S.written self.old.socket) (S.written self.new.socket)
+            × Rose (S.refusals self.old.socket) (S.refusals self.new.socket))
+            (λ count. (0 < count) × (count ≤ length piece.now)
+            × (S.refusals self.new.socket ≡ S.refusals self.old.socket)
             × Appends (S.written self.old.socket) (S.written self.new.socket) (take count piece.now)) }
         ensures left { Keeps (S.left self.old.socket) (S.left self.new.socket) }
         ensures fault { self.new.fault ≡ self.old.fault }
@@ -275,7 +277,7 @@ impl<S: Socket> Line<S> {
         }
     }
 
-    /// Leaves the socket and the slot, at this time in milliseconds. It carries no byte any more.
+    // Leaves the socket and the slot, at this time in milliseconds. It carries no byte any more.
     #[tactic(auto, using(crate::proofs::Faulting::closes_first, crate::proofs::Faulting::causes_same, crate::proofs::Faulting::cause_first))]
     pub(crate) fn leave(&mut self, milliseconds: u64)
         ensures left { Keeps (S.left self.old.socket) (S.left self.new.socket) }

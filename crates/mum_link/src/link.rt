@@ -23,7 +23,7 @@ use mum_pace::{Meter, Reservation};
 use std::net::Ipv6Addr;
 
 /// A connection. The bytes that are left are those of its socket; those that were written are those of its socket, and
-/// behind them what is kept back.
+/// after them what is kept back.
 #[derive(Drop)]
 pub struct SocketLink<S: Socket> {
     tally: Tally,
@@ -58,7 +58,7 @@ fn count_write(tally: &mut Tally, answer: PollWrite)
 }
 
 impl<S: Socket> SocketLink<S> {
-    /// An open link to the peer at this address, which came at this time in milliseconds. Nothing went over it yet.
+    // An open link to the peer at this address, which came at this time in milliseconds. Nothing went over it yet.
     pub(crate) fn new(
         socket: S,
         seat: Seat,
@@ -99,7 +99,14 @@ impl<S: Socket> SocketLink<S> {
 }
 
 impl<S: Socket> Link for SocketLink<S> {
-    ghost facts = { λ l. record { counts = l.tally; left = S.left l.wire.line.socket; written = taken (S.written l.wire.line.socket) l.wire.kept; address = ipv6_octets l.address; is_shut = l.is_shut } };
+    ghost facts = { λ l. record {
+      counts = l.tally;
+      left = S.left l.wire.line.socket;
+      written = taken
+          (S.written l.wire.line.socket) l.wire.kept;
+      address = ipv6_octets l.address;
+      is_shut = l.is_shut;
+    } };
 
     #[tactic(auto, using(crate::proofs::Faulting::broken_still, crate::proofs::Faulting::shut_before))]
     fn poll_read(&mut self, buf: &mut [u8]) -> PollRead
@@ -114,7 +121,7 @@ impl<S: Socket> Link for SocketLink<S> {
         // It reads no more than its pace allows, counts what it read, and holds what a long frame reserves.
         ensures pace { ReadsInPace result buf.new (state_of self.old.wire.meter) (state_of self.new.wire.meter) }
         ensures held { HoldsForFrame result (state_of self.old.wire.meter) (state_of self.new.wire.meter) self.new.wire.reservation.bytes }
-        // It fails only by a fault, which stays and has its cause. Behind one, as once it was shut, nothing is read.
+        // It fails only by a fault, which stays and has its cause. After one, as once it was shut, nothing is read.
         ensures fails { result ≡ read.Failed → IsBroken self.new.wire.line.fault }
         ensures fault { Stays self.old.wire.line.fault self.new.wire.line.fault }
         ensures broken { IsBroken self.old.wire.line.fault → (result ≡ read.Failed)
@@ -135,7 +142,7 @@ impl<S: Socket> Link for SocketLink<S> {
         ensures address { ipv6_octets self.new.address ≡ ipv6_octets self.old.address }
         ensures is_shut { self.new.is_shut ≡ self.old.is_shut }
 
-        // So does a write, and behind a fault nothing is written.
+        // So does a write, and after a fault nothing is written.
         ensures fails { result ≡ write.Failed → IsBroken self.new.wire.line.fault }
         ensures fault { Stays self.old.wire.line.fault self.new.wire.line.fault }
         ensures broken { IsBroken self.old.wire.line.fault → (result ≡ write.Failed)

@@ -46,9 +46,9 @@ pub trait Listener: Drop {
         ensures origin { Self.Socket.origin socket.new ≡ Self.Socket.origin socket.old }
         ensures watched { Self.Socket.watched socket.new ≡ Self.Socket.watched socket.old };
 
-    /// An accept failed by this error, which is not one of those in a row behind another. It is tried again.
+    /// An accept failed by this error, which is not one of those in a row after another. It is tried again.
     fn cannot_accept(&mut self, error: &io::Error);
 
-    /// So many connections began without a header until now; the last of them was closed.
+    /// This many connections began without a header until now; the last of them was closed.
     fn refuse(&mut self, refused: u64);
 }

@@ -1,6 +1,6 @@
 //! What all sockets share: where they are registered, and the sockets whose links were shut.
 //!
-//! Where a socket is closed while its peer still sends, the system tells the peer that the connection is broken, and a relay
+//! Where a socket is closed while its peer still sends, the system reports the connection to the peer as broken, and a relay
 //! then throws away what it has not read: the last words to a client, too. So each socket that was left stays open until
 //! some others were.
 
@@ -8,7 +8,7 @@ use std::alloc::{AllocError, Global};
 use std::mem::{drop, replace};
 use std::sync::Mutex;
 
-/// How many sockets that were left stay open.
+// How many sockets that were left stay open.
 const DEPARTED_LIMIT: usize = 64;
 
 // The sockets that were left last.

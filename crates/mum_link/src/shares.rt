@@ -6,7 +6,7 @@ ghost use Rattle.mum_link.specs.Sharing.{IsEnough, later_threads, thread_of_link
 use std::alloc::Global;
 use std::mem::replace;
 
-/// The roles behind the workers.
+/// The roles after the workers.
 #[derive(Clone, Copy)]
 pub struct LaterRoles {
     pub count: usize,
@@ -15,7 +15,7 @@ pub struct LaterRoles {
 }
 
 impl LaterRoles {
-    /// So many, none of which hears of the owner.
+    /// This many, none of which hears of the owner.
     pub fn new(count: usize) -> LaterRoles
         ensures { result ≡ record { count = count; hear_owner = false } }
     {
@@ -41,8 +41,8 @@ pub struct Shares {
 }
 
 impl Shares {
-    /// Of so many roles in at most so many threads, which are enough where there is one for the owner, one for workers, and
-    /// one for the roles behind these, if there are any.
+    /// Of m roles in at most n threads, which are enough where there is one for the owner, one for workers, and
+    /// one for the roles after these, if there are any.
     pub fn of(roles: usize, threads: usize, later: LaterRoles) -> Shares
         ensures workers { result.workers ≡ roles - later.count - 1 }
         ensures enough { IsEnough threads later.count result.workers result.spread roles }
@@ -69,7 +69,7 @@ impl Shares {
     }
 }
 
-/// The stations of a crew in the order of their numbers, the last for the roles behind the workers, where there are any.
+/// The stations of a crew in the order of their numbers, the last for the roles after the workers, where there are any.
 #[derive(Drop)]
 pub struct Stations<S> {
     list: Vec<S>,
@@ -77,7 +77,7 @@ pub struct Stations<S> {
     has_later: bool,
 }
 
-// Puts a station behind the others. Where there is no memory for it, it is dropped.
+// Puts a station after the others. Where there is no memory for it, it is dropped.
 fn put<S: Drop>(list: &mut Vec<S>, station: Option<S>) {
     if let Some(station) = station {
         let _no_memory = list.push(station);
@@ -106,7 +106,7 @@ impl<S: Drop> Stations<S> {
         self.list.as_slice()
     }
 
-    /// Those of the owner, of so many threads that share the workers, and of the roles behind them.
+    /// Those of the owner, of n threads that share the workers, and of the roles after them.
     pub fn lend(&mut self, alloc: Global, spread: u16) -> Vec<S> {
         let later = self.take_later();
         move_last(&mut self.list, &mut self.spare, usize::from(spread) + 1);
@@ -122,7 +122,7 @@ impl<S: Drop> Stations<S> {
         put(&mut self.list, later);
     }
 
-    // That of the roles behind the workers, which is the last.
+    // That of the roles after the workers, which is the last.
     fn take_later(&mut self) -> Option<S> {
         if self.has_later {
             self.list.pop()

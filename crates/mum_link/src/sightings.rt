@@ -143,7 +143,7 @@ impl Frames {
         self.length() == HEADER_LENGTH.saturating_add(payload.len()) && self.begins_with(payload)
     }
 
-    // The number behind this key at this place of the frame, and the place behind it.
+    // The number after this key at this place of the frame, and the place after it.
     fn number(&self, place: usize, key: u8) -> Option<(u32, usize)> {
         if *self.front.get(place)? != key {
             return None;

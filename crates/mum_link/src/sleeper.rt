@@ -18,7 +18,7 @@ pub trait Sleeper: Drop {
     /// The time in milliseconds since the machine was opened, if the system says it.
     fn milliseconds(&self) -> Option<u64>;
 
-    /// Sleeps for so many milliseconds at most, and notes in the hub what each link that is ready is ready for.
+    /// Sleeps for n milliseconds at most, and notes in the hub what each link that is ready is ready for.
     fn sleep(&mut self, hub: &Hub, milliseconds: u64) -> Ready;
 
     /// Wakes a thread, or has its next sleep end at once. One that the crew does not have is no fault.

@@ -40,7 +40,7 @@ pub trait Socket: Drop {
         ensures refusals { refusals self.new ≡ refusals self.old }
         ensures failures { CountsFailedRead result (failures self.old) (failures self.new) };
 
-    /// Writes a front of the piece behind what was written before. An error of the kind `WouldBlock`: there is no room
+    /// Writes a front of the piece after what was written before. An error of the kind `WouldBlock`: there is no room
     /// yet.
     fn write(&mut self, piece: &[u8]) -> io::Result<usize>
         ensures fits { WritesAtMost result piece.now }
@@ -58,9 +58,9 @@ pub trait Socket: Drop {
         ensures refusals { refusals self.new ≡ refusals self.old }
         ensures failures { CountsOneIf (not result) (failures self.old) (failures self.new) };
 
-    /// Tells the peer that no more comes, and stops reporting what the socket is ready for, at this time in milliseconds:
-    /// so many bytes were received and sent. What the peer has still sent is thrown away, or else the close would be a reset,
-    /// and the peer might lose what was written last.
+    /// Notifies the peer that no more comes, and stops reporting what the socket is ready for, at this time in
+    /// milliseconds: this many bytes were received and sent. What the peer has still sent is thrown away, or else
+    /// the close would be a reset, and the peer might lose what was written last.
     fn leave(&mut self, milliseconds: u64, received: u64, sent: u64)
         ensures left { Keeps (left self.old) (left self.new) }
         ensures written { Keeps (written self.old) (written self.new) }

@@ -8,8 +8,8 @@ use crate::sleeper::{Ready, Sleeper};
 use mum_crew::{Look, Station};
 use std::sync::Arc;
 
-/// The longest sleep in milliseconds: while a link is open, where one has to wait until time has passed, and while
-/// none is open.
+// The longest sleep in milliseconds: while a link is open, where one has to wait until time has passed, and while
+// none is open.
 const SLEEP: u64 = 1000;
 
 const SHORT_SLEEP: u64 = 50;

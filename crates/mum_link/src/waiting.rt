@@ -13,11 +13,11 @@ use mum_address::{HEADER_LIMIT, Header, HeaderReader};
 use std::io::ErrorKind;
 use std::net::Ipv6Addr;
 
-/// How long a connection may wait for its header, in milliseconds.
+// How long a connection may wait for its header, in milliseconds.
 pub(crate) const PATIENCE: u64 = 10_000;
 
-/// A connection that came at this time in milliseconds, with its slot, the address of its peer, and what has come of its
-/// header, which is all that was read of it.
+// A connection that came at this time in milliseconds, with its slot, the address of its peer, and what has come of its
+// header, which is all that was read of it.
 #[derive(Drop)]
 pub(crate) struct Waiting<S: Socket> {
     pub(crate) socket: S,
@@ -36,7 +36,7 @@ enum Piece {
 }
 
 impl<S: Socket> Waiting<S> {
-    /// Nothing of its header has come yet.
+    // Nothing of its header has come yet.
     pub(crate) fn new(socket: S, slot: usize, address: Ipv6Addr, milliseconds: u64) -> Waiting<S>
         requires { HasRead (S.origin socket) (S.left socket) [] (ipv6_octets address) }
     {
@@ -49,7 +49,7 @@ impl<S: Socket> Waiting<S> {
         }
     }
 
-    /// Reads on, no further than the header. What it is by now; one that has not come whole in time is refused.
+    // Reads on, no further than the header. What it is by now; one that has not come whole in time is refused.
     pub(crate) fn read_on(&mut self, hub: &Hub, milliseconds: u64) -> Header
         ensures header { (told : Option (List ℕ)) → plain result ≡ whole told → IsHeader self.new.reader told }
         ensures reads { ReadsOn self.old.reader self.new.reader (S.left self.old.socket) (S.left self.new.socket) }

@@ -23,7 +23,7 @@ use crate::socket::Socket;
 use mum_io::{PollRead, PollWrite};
 use mum_pace::{Meter, Reservation};
 
-/// A line, how fast it may be read, and what is kept back of what was written.
+// A line, how fast it may be read, and what is kept back of what was written.
 #[derive(Drop)]
 pub(crate) struct Wire<S: Socket> {
     pub(crate) line: Line<S>,
@@ -36,7 +36,7 @@ pub(crate) struct Wire<S: Socket> {
 }
 
 impl<S: Socket> Wire<S> {
-    /// A wire over which nothing went yet, to a peer that came at this time in milliseconds.
+    // A wire over which nothing went yet, to a peer that came at this time in milliseconds.
     pub(crate) fn new(
         socket: S,
         seat: Seat,
@@ -66,8 +66,8 @@ impl<S: Socket> Wire<S> {
         }
     }
 
-    /// Reads what has come, if its pace and the allowance for long frames allow that. What was kept in an earlier batch
-    /// is sent before.
+    // Reads what has come, if its pace and the allowance for long frames allow that. What was kept in an earlier batch
+    // is sent before.
     #[tactic(auto, using(crate::proofs::Faulting::stays_same, crate::proofs::Faulting::stays_on, crate::proofs::Faulting::broken_still))]
     pub(crate) fn read(&mut self, buf: &mut [u8]) -> PollRead
         requires { 0 < length buf.old }
@@ -78,7 +78,8 @@ impl<S: Socket> Wire<S> {
         ensures held { HoldsForFrame result (state_of self.old.meter) (state_of self.new.meter) self.new.reservation.bytes }
         ensures fails { result ≡ read.Failed → IsBroken self.new.line.fault }
         ensures fault { Stays self.old.line.fault self.new.line.fault }
-        ensures broken { IsBroken self.old.line.fault → (result ≡ read.Failed) × (self.new.line.socket ≡ self.old.line.socket) }
+        ensures broken { IsBroken self.old.line.fault
+            → (result ≡ read.Failed) × (self.new.line.socket ≡ self.old.line.socket) }
     {
         self.line.seat.board.ask();
         if self.keeps_an_earlier_batch() {
@@ -102,7 +103,8 @@ impl<S: Socket> Wire<S> {
         ensures held { HoldsForFrame result (state_of self.old.meter) (state_of self.new.meter) self.new.reservation.bytes }
         ensures fails { result ≡ read.Failed → IsBroken self.new.line.fault }
         ensures fault { Stays self.old.line.fault self.new.line.fault }
-        ensures broken { IsBroken self.old.line.fault → (result ≡ read.Failed) × (self.new.line.socket ≡ self.old.line.socket) }
+        ensures broken { IsBroken self.old.line.fault
+            → (result ≡ read.Failed) × (self.new.line.socket ≡ self.old.line.socket) }
     {
         if self.line.is_over() {
             return PollRead::Failed;
@@ -141,7 +143,7 @@ impl<S: Socket> Wire<S> {
         self.reservation.leave_frames_before(self.meter.payload());
     }
 
-    /// Sends the piece where nothing is kept and nobody holds back, and else keeps it as far as there is room.
+    // Sends the piece where nothing is kept and nobody holds back, and else keeps it as far as there is room.
     #[tactic(auto, using(crate::proofs::Faulting::stays_same, crate::proofs::Faulting::stays_on, crate::proofs::Faulting::broken_still))]
     pub(crate) fn write(&mut self, piece: &[u8]) -> PollWrite
         requires { 0 < length piece.now }
@@ -150,7 +152,8 @@ impl<S: Socket> Wire<S> {
         ensures left { Keeps (S.left self.old.line.socket) (S.left self.new.line.socket) }
         ensures fails { result ≡ write.Failed → IsBroken self.new.line.fault }
         ensures fault { Stays self.old.line.fault self.new.line.fault }
-        ensures broken { IsBroken self.old.line.fault → (result ≡ write.Failed) × (self.new.line.socket ≡ self.old.line.socket) }
+        ensures broken { IsBroken self.old.line.fault
+            → (result ≡ write.Failed) × (self.new.line.socket ≡ self.old.line.socket) }
     {
         let milliseconds = self.line.seat.board.milliseconds();
         if self.keeps_an_earlier_batch() || self.kept.room() < piece.len() {
@@ -186,7 +189,8 @@ impl<S: Socket> Wire<S> {
         ensures left { Keeps (S.left self.old.line.socket) (S.left self.new.line.socket) }
         ensures fails { result ≡ write.Failed → IsBroken self.new.line.fault }
         ensures fault { Stays self.old.line.fault self.new.line.fault }
-        ensures broken { IsBroken self.old.line.fault → (result ≡ write.Failed) × (self.new.line.socket ≡ self.old.line.socket) }
+        ensures broken { IsBroken self.old.line.fault
+            → (result ≡ write.Failed) × (self.new.line.socket ≡ self.old.line.socket) }
     {
         // what it keeps is sent when it is shut
         if self.line.is_over() {
@@ -245,7 +249,7 @@ impl<S: Socket> Wire<S> {
         }
     }
 
-    /// Sends what is kept, takes the socket out of its poll and the link out of its slot.
+    // Sends what is kept, takes the socket out of its poll and the link out of its slot.
     #[tactic(auto, using(crate::proofs::Faulting::closes_from))]
     pub(crate) fn shut(&mut self)
         ensures taken { Keeps (taken (S.written self.old.line.socket) self.old.kept)

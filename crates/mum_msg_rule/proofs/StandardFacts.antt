@@ -1,12 +1,6 @@
 -- Worked messages, after Mumble.proto, so that a wrong label, type, name or number in a table does not check. Those of a
--- client or a server are what Mumble 1.3.4 and its server wrote; a payload's fields stand apart.
-use Rattle.std.proofs.Common.{◌≡◌, true, false, [], ◌∷◌, ◌++◌, codes, map, take, replicate, Some, None, refl}
-use Rattle.mum_base.proofs.Hex.{hex}
-use Rattle.mum_fields.specs.Written.{block_item, written}
-use Rattle.mum_fields.specs.Table.{decoded}
-use Rattle.mum_fields.proofs.Worked.{messages, IsSpelled, IsRespelled, IsRead, stopped, misses, end_of, fine}
-use Rattle.mum_msg_rule.specs.declared.{text_message.TextMessage.TextMessage, permission_denied.PermissionDenied.PermissionDenied, permission_query.PermissionQuery.PermissionQuery, acl_group.AclGroup.AclGroup, acl_line.AclLine.AclLine, acl.Acl.Acl, target_block.TargetBlock.TargetBlock, voice_target.VoiceTarget.VoiceTarget}
-use Rattle.mum_msg_rule.specs.Messages.{text_message, permission_denied, acl_group, acl_line, acl, target_block, voice_target, permission_query}
+-- client or a server are what Mumble 1.3.4 and its server wrote; a payload's fields are apart.
+use Rattle.mum_msg_rule.proofs.Common.{◌≡◌, true, false, [], ◌∷◌, ◌++◌, codes, map, take, replicate, Some, None, refl, hex, block_item, written, decoded, messages, IsSpelled, IsRespelled, IsRead, stopped, misses, end_of, fine, TextMessage, PermissionDenied, PermissionQuery, AclGroup, AclLine, Acl, TargetBlock, VoiceTarget, text_message, permission_denied, acl_group, acl_line, acl, target_block, voice_target, permission_query}
 
 -- messages with no field set
 abbrev no_text : TextMessage
@@ -294,7 +288,7 @@ pub missing_fields : AreMissing
 unfolding messages
 missing_fields = search
 
--- what becomes of an ACL with an entry for an account, cut behind each byte of the entry
+-- what becomes of an ACL with an entry for an account, cut after each byte of the entry
 pub an_entry_cut : map (λ n. end_of (decoded acl (hex "0807" ++ written (block_item 4 (take n (hex "0801 2005 3004")) ∷ [])))) (0 ∷ 1 ∷ 2 ∷ 3 ∷ 4 ∷ 5 ∷ 6 ∷ [])
     ≡ misses 4 ∷ stopped 11 5 ∷ misses 4 ∷ stopped 11 7 ∷ fine ∷ stopped 11 9 ∷ fine ∷ []
 unfolding messages

@@ -4,11 +4,8 @@ use Rattle.std.specs.Prelude.{[], ◌∷◌}
 use Rattle.mum_fields.specs.Table.{Table, optional, required, required_or, repeated, repeated_message, uint32, bool, string}
 use Rattle.mum_msg_rule.specs.declared.text_message.TextMessage.{TextMessage}
 use Rattle.mum_msg_rule.specs.declared.permission_denied.PermissionDenied.{PermissionDenied}
-use Rattle.mum_msg_rule.specs.declared.acl_group.AclGroup.{AclGroup}
-use Rattle.mum_msg_rule.specs.declared.acl_line.AclLine.{AclLine}
-use Rattle.mum_msg_rule.specs.declared.acl.Acl.{Acl}
-use Rattle.mum_msg_rule.specs.declared.target_block.TargetBlock.{TargetBlock}
-use Rattle.mum_msg_rule.specs.declared.voice_target.VoiceTarget.{VoiceTarget}
+use Rattle.mum_msg_rule.specs.declared.{acl_group.AclGroup.AclGroup, acl_line.AclLine.AclLine, acl.Acl.Acl}
+use Rattle.mum_msg_rule.specs.declared.{target_block.TargetBlock.TargetBlock, voice_target.VoiceTarget.VoiceTarget}
 use Rattle.mum_msg_rule.specs.declared.permission_query.PermissionQuery.{PermissionQuery}
 
 abbrev pub text_message : Table TextMessage

@@ -1,15 +1,12 @@
--- A message is told by its parts: each table has a row for each field of the struct.
-use Rattle.std.specs.Prelude.{◌≡◌, List, [], ◌∷◌, map}
+-- A message is described by its parts: each table has a row for each field of the struct.
 use Rattle.std.proofs.Common.{ap, ◌∙◌, refl}
+use Rattle.std.specs.Prelude.{◌≡◌, List, [], ◌∷◌, map}
+use Rattle.mum_fields.proofs.Public.{messages-same}
 use Rattle.mum_fields.specs.Table.{Values, layout, parts}
-use Rattle.mum_fields.proofs.Puts.{messages-same}
 use Rattle.mum_msg_rule.specs.declared.text_message.TextMessage.{TextMessage}
 use Rattle.mum_msg_rule.specs.declared.permission_denied.PermissionDenied.{PermissionDenied}
-use Rattle.mum_msg_rule.specs.declared.acl_group.AclGroup.{AclGroup}
-use Rattle.mum_msg_rule.specs.declared.acl_line.AclLine.{AclLine}
-use Rattle.mum_msg_rule.specs.declared.acl.Acl.{Acl}
-use Rattle.mum_msg_rule.specs.declared.target_block.TargetBlock.{TargetBlock}
-use Rattle.mum_msg_rule.specs.declared.voice_target.VoiceTarget.{VoiceTarget}
+use Rattle.mum_msg_rule.specs.declared.{acl_group.AclGroup.AclGroup, acl_line.AclLine.AclLine, acl.Acl.Acl}
+use Rattle.mum_msg_rule.specs.declared.{target_block.TargetBlock.TargetBlock, voice_target.VoiceTarget.VoiceTarget}
 use Rattle.mum_msg_rule.specs.declared.permission_query.PermissionQuery.{PermissionQuery}
 use Rattle.mum_msg_rule.specs.Messages.{text_message, permission_denied, acl_group, acl_line, acl, target_block, voice_target, permission_query}
 
@@ -89,9 +86,11 @@ acl_with v groups acls = record {
 pub acl_told : (m n : Acl) → parts acl m ≡ parts acl n → m ≡ n
 unfolding acl_with
 acl_told m n h =
-    let groups = messages-same acl_group acl_group_told m.groups n.groups (ap (λ (v : Values (layout acl)). v.1.1.0) h) in
+    let groups = messages-same acl_group acl_group_told m.groups n.groups
+    (ap (λ (v : Values (layout acl)). v.1.1.0) h) in
     let acls = messages-same acl_line acl_line_told m.acls n.acls (ap (λ (v : Values (layout acl)). v.1.1.1.0) h) in
-    ap (λ v. acl_with v m.groups m.acls) h ∙ ap (λ x. acl_with (parts acl n) x m.acls) groups ∙ ap (λ x. acl_with (parts acl n) n.groups x) acls
+    ap (λ v. acl_with v m.groups m.acls) h ∙ ap (λ x. acl_with (parts acl n) x m.acls) groups
+    ∙ ap (λ x. acl_with (parts acl n) n.groups x) acls
 
 -- the message that has these values
 unfoldable pub acl_of : Values (layout acl) → Acl
@@ -133,7 +132,8 @@ voice_target_with v targets = record { id = v.0; targets = targets }
 pub voice_target_told : (m n : VoiceTarget) → parts voice_target m ≡ parts voice_target n → m ≡ n
 unfolding voice_target_with
 voice_target_told m n h =
-    let targets = messages-same target_block target_block_told m.targets n.targets (ap (λ (v : Values (layout voice_target)). v.1.0) h) in
+    let targets = messages-same target_block target_block_told m.targets n.targets
+    (ap (λ (v : Values (layout voice_target)). v.1.0) h) in
     ap (λ v. voice_target_with v m.targets) h ∙ ap (λ x. voice_target_with (parts voice_target n) x) targets
 
 -- the message that has these values

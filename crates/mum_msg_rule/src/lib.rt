@@ -1,4 +1,4 @@
-//! The messages of the protocol that tell of texts, of rules and of whom a voice goes to, and the
+//! The messages of the protocol that say texts, rules and whom a voice goes to, and the
 //! blocks in them, decoded and encoded. Each is a struct beside its table of fields.
 #![tactic(auto)]
 

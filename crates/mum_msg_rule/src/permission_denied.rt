@@ -18,13 +18,13 @@ pub struct PermissionDenied {
     /// The reason as a text, for people.
     pub reason: Option<Text>,
     /// The type of the denial, which Mumble.proto calls `type`: 1 is a permission, and 0 is another
-    /// reason, told by `reason`.
+    /// reason, given by `reason`.
     pub kind: Option<u32>,
     /// The name that is invalid.
     pub name: Option<Text>,
 }
 
-/// The fields in the words of Mumble.proto.
+// The fields in the words of Mumble.proto.
 const FIELDS: [FieldShape; 6] = [
     field!(optional uint32 = 1),
     field!(optional uint32 = 2),

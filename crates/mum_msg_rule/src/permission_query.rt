@@ -1,4 +1,4 @@
-//! PermissionQuery: a client asks for its permissions on a channel, and the server tells them.
+//! PermissionQuery: a client asks for its permissions on a channel, and the server sends them.
 
 use mum_base::OutOfMemory;
 use mum_fields::{
@@ -17,7 +17,7 @@ pub struct PermissionQuery {
     pub flush: Option<bool>,
 }
 
-/// The fields in the words of Mumble.proto.
+// The fields in the words of Mumble.proto.
 const FIELDS: [FieldShape; 3] = [
     field!(optional uint32 = 1),
     field!(optional uint32 = 2),

@@ -22,7 +22,7 @@ pub struct TextMessage {
     pub message: Option<Text>,
 }
 
-/// The fields in the words of Mumble.proto.
+// The fields in the words of Mumble.proto.
 const FIELDS: [FieldShape; 5] = [
     field!(optional uint32 = 1),
     field!(repeated uint32 = 2),

@@ -1,11 +1,6 @@
 -- Worked messages, after Mumble.proto, so that a wrong label, type, name or number in a table does not check. Those of a
--- client or a server are what Mumble 1.3.4 and its server wrote; a payload's fields stand apart.
-use Rattle.std.proofs.Common.{◌≡◌, ◌-◌, ◌^◌, true, false, [], ◌∷◌, codes, map, take, pos, negsuc, Some, None, refl}
-use Rattle.mum_base.proofs.Hex.{hex}
-use Rattle.mum_fields.specs.Table.{decoded}
-use Rattle.mum_fields.proofs.Worked.{messages, IsSpelled, IsRespelled, IsRead, stopped, misses, end_of, fine}
-use Rattle.mum_msg_state.specs.declared.{ping.Ping.Ping, version.Version.Version, authenticate.Authenticate.Authenticate, reject.Reject.Reject, server_sync.ServerSync.ServerSync, codec_version.CodecVersion.CodecVersion, channel_remove.ChannelRemove.ChannelRemove, user_remove.UserRemove.UserRemove, channel_state.ChannelState.ChannelState, user_state.UserState.UserState}
-use Rattle.mum_msg_state.specs.Messages.{ping, version, authenticate, reject, server_sync, codec_version, channel_remove, user_remove, channel_state, user_state}
+-- client or a server are what Mumble 1.3.4 and its server wrote; a payload's fields are apart.
+use Rattle.mum_msg_state.proofs.Common.{◌≡◌, ◌-◌, ◌^◌, true, false, [], ◌∷◌, codes, map, take, pos, negsuc, Some, None, refl, hex, decoded, messages, IsSpelled, IsRespelled, IsRead, stopped, misses, end_of, fine, Ping, Version, Authenticate, Reject, ServerSync, CodecVersion, ChannelRemove, UserRemove, ChannelState, UserState, ping, version, authenticate, reject, server_sync, codec_version, channel_remove, user_remove, channel_state, user_state}
 
 -- messages with no field set
 abbrev no_version : Version
@@ -305,7 +300,7 @@ pub faults : AreFaults
 unfolding messages
 faults = search
 
--- what becomes of a Reject cut behind each byte
+-- what becomes of a Reject cut after each byte
 pub a_reject_cut : map (λ n. end_of (decoded reject (take n (hex "0803 12026e6f")))) (0 ∷ 1 ∷ 2 ∷ 3 ∷ 4 ∷ 5 ∷ 6 ∷ [])
     ≡ fine ∷ stopped 11 1 ∷ fine ∷ stopped 11 3 ∷ stopped 15 4 ∷ stopped 15 4 ∷ fine ∷ []
 unfolding messages

@@ -2,16 +2,11 @@
 -- name and number against it.
 use Rattle.std.specs.Prelude.{[], ◌∷◌}
 use Rattle.mum_fields.specs.Table.{Table, optional, required, repeated, uint32, uint64, int32, bool, string, bytes}
-use Rattle.mum_msg_state.specs.declared.ping.Ping.{Ping}
-use Rattle.mum_msg_state.specs.declared.version.Version.{Version}
-use Rattle.mum_msg_state.specs.declared.authenticate.Authenticate.{Authenticate}
-use Rattle.mum_msg_state.specs.declared.reject.Reject.{Reject}
-use Rattle.mum_msg_state.specs.declared.server_sync.ServerSync.{ServerSync}
-use Rattle.mum_msg_state.specs.declared.codec_version.CodecVersion.{CodecVersion}
-use Rattle.mum_msg_state.specs.declared.channel_remove.ChannelRemove.{ChannelRemove}
-use Rattle.mum_msg_state.specs.declared.user_remove.UserRemove.{UserRemove}
-use Rattle.mum_msg_state.specs.declared.channel_state.ChannelState.{ChannelState}
-use Rattle.mum_msg_state.specs.declared.user_state.UserState.{UserState}
+use Rattle.mum_msg_state.specs.declared.{ping.Ping.Ping, version.Version.Version}
+use Rattle.mum_msg_state.specs.declared.{authenticate.Authenticate.Authenticate, reject.Reject.Reject}
+use Rattle.mum_msg_state.specs.declared.{server_sync.ServerSync.ServerSync, codec_version.CodecVersion.CodecVersion}
+use Rattle.mum_msg_state.specs.declared.{channel_remove.ChannelRemove.ChannelRemove, user_remove.UserRemove.UserRemove}
+use Rattle.mum_msg_state.specs.declared.{channel_state.ChannelState.ChannelState, user_state.UserState.UserState}
 
 abbrev pub ping : Table Ping
 ping = optional uint64 1 (λ m. m.timestamp)

@@ -1,16 +1,11 @@
--- A message is told by its parts: each table has a row for each field of the struct.
+-- A message is described by its parts: each table has a row for each field of the struct.
 use Rattle.std.proofs.Common.{◌≡◌, ap, refl}
 use Rattle.mum_fields.specs.Table.{Values, layout, parts}
-use Rattle.mum_msg_state.specs.declared.ping.Ping.{Ping}
-use Rattle.mum_msg_state.specs.declared.version.Version.{Version}
-use Rattle.mum_msg_state.specs.declared.authenticate.Authenticate.{Authenticate}
-use Rattle.mum_msg_state.specs.declared.reject.Reject.{Reject}
-use Rattle.mum_msg_state.specs.declared.server_sync.ServerSync.{ServerSync}
-use Rattle.mum_msg_state.specs.declared.codec_version.CodecVersion.{CodecVersion}
-use Rattle.mum_msg_state.specs.declared.channel_remove.ChannelRemove.{ChannelRemove}
-use Rattle.mum_msg_state.specs.declared.user_remove.UserRemove.{UserRemove}
-use Rattle.mum_msg_state.specs.declared.channel_state.ChannelState.{ChannelState}
-use Rattle.mum_msg_state.specs.declared.user_state.UserState.{UserState}
+use Rattle.mum_msg_state.specs.declared.{ping.Ping.Ping, version.Version.Version}
+use Rattle.mum_msg_state.specs.declared.{authenticate.Authenticate.Authenticate, reject.Reject.Reject}
+use Rattle.mum_msg_state.specs.declared.{server_sync.ServerSync.ServerSync, codec_version.CodecVersion.CodecVersion}
+use Rattle.mum_msg_state.specs.declared.{channel_remove.ChannelRemove.ChannelRemove, user_remove.UserRemove.UserRemove}
+use Rattle.mum_msg_state.specs.declared.{channel_state.ChannelState.ChannelState, user_state.UserState.UserState}
 use Rattle.mum_msg_state.specs.Messages.{ping, version, authenticate, reject, server_sync, codec_version, channel_remove, user_remove, channel_state, user_state}
 
 ping_of : Values (layout ping) → Ping

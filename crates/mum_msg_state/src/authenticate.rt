@@ -22,7 +22,7 @@ pub struct Authenticate {
     pub opus: Option<bool>,
 }
 
-/// The fields in the words of Mumble.proto.
+// The fields in the words of Mumble.proto.
 const FIELDS: [FieldShape; 5] = [
     field!(optional string = 1),
     field!(optional string = 2),

@@ -13,7 +13,7 @@ pub struct ChannelRemove {
     pub channel_id: Option<u32>,
 }
 
-/// The fields in the words of Mumble.proto.
+// The fields in the words of Mumble.proto.
 const FIELDS: [FieldShape; 1] = [field!(required uint32 = 1)];
 
 impl Message for ChannelRemove {

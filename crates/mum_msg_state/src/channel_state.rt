@@ -32,7 +32,7 @@ pub struct ChannelState {
     pub max_users: Option<u32>,
 }
 
-/// The fields in the words of Mumble.proto.
+// The fields in the words of Mumble.proto.
 const FIELDS: [FieldShape; 10] = [
     field!(optional uint32 = 1),
     field!(optional uint32 = 2),

@@ -19,7 +19,7 @@ pub struct CodecVersion {
     pub opus: Option<bool>,
 }
 
-/// The fields in the words of Mumble.proto.
+// The fields in the words of Mumble.proto.
 const FIELDS: [FieldShape; 4] = [
     field!(required int32 = 1),
     field!(required int32 = 2),

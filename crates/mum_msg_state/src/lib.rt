@@ -1,4 +1,4 @@
-//! The messages of the protocol that tell of the server's state, decoded and encoded. Each is a
+//! The messages of the protocol that report the server's state, decoded and encoded. Each is a
 //! struct beside its table of fields; `mum_fields` holds what all of them share.
 #![tactic(auto)]
 

@@ -13,7 +13,7 @@ pub struct Ping {
     pub timestamp: Option<u64>,
 }
 
-/// The fields in the words of Mumble.proto.
+// The fields in the words of Mumble.proto.
 const FIELDS: [FieldShape; 1] = [field!(optional uint64 = 1)];
 
 impl Message for Ping {

@@ -15,7 +15,7 @@ pub struct Reject {
     pub reason: Option<Text>,
 }
 
-/// The fields in the words of Mumble.proto.
+// The fields in the words of Mumble.proto.
 const FIELDS: [FieldShape; 2] = [field!(optional uint32 = 1), field!(optional string = 2)];
 
 impl Message for Reject {

@@ -1,4 +1,4 @@
-//! ServerSync: the server has told a new client of all channels and users.
+//! ServerSync: the server has sent a new client all channels and users.
 
 use mum_base::{OutOfMemory, Text};
 use mum_fields::{
@@ -19,7 +19,7 @@ pub struct ServerSync {
     pub permissions: Option<u64>,
 }
 
-/// The fields in the words of Mumble.proto.
+// The fields in the words of Mumble.proto.
 const FIELDS: [FieldShape; 4] = [
     field!(optional uint32 = 1),
     field!(optional uint32 = 2),

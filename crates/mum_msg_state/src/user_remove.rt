@@ -19,7 +19,7 @@ pub struct UserRemove {
     pub ban: Option<bool>,
 }
 
-/// The fields in the words of Mumble.proto.
+// The fields in the words of Mumble.proto.
 const FIELDS: [FieldShape; 4] = [
     field!(required uint32 = 1),
     field!(optional uint32 = 2),

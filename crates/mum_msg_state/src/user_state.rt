@@ -48,7 +48,7 @@ pub struct UserState {
     pub listening_channel_remove: Items<u32>,
 }
 
-/// The fields in the words of Mumble.proto.
+// The fields in the words of Mumble.proto.
 const FIELDS: [FieldShape; 18] = [
     field!(optional uint32 = 1),
     field!(optional uint32 = 2),

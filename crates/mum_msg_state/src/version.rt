@@ -1,4 +1,4 @@
-//! Version: what each side tells first of itself.
+//! Version: what each side sends first of itself.
 
 use mum_base::{OutOfMemory, Text};
 use mum_fields::{
@@ -20,7 +20,7 @@ pub struct Version {
     pub os_version: Option<Text>,
 }
 
-/// The fields in the words of Mumble.proto.
+// The fields in the words of Mumble.proto.
 const FIELDS: [FieldShape; 4] = [
     field!(optional uint32 = 1),
     field!(optional string = 2),

@@ -1,25 +1,6 @@
 -- How many bytes payloads take at most: a varint takes ten, so a number of a message twenty with its key, and a text
 -- twenty and its own. What a proper state holds is short enough.
-use Rattle.std.proofs.Common.{◌≡◌, ℕ, zero, suc, ◌+◌, ◌*◌, ◌≤◌, ◌/◌, Bool, true, false, List, [], ◌∷◌, ◌++◌, length, Option, Some, None, refl, ap, arith, nat_lt}
-use Rattle.std.proofs.lemmas.List.{length-append}
-use Rattle.mum_fields.specs.declared.shape.Kind.{Kind}
-use Rattle.mum_fields.specs.declared.shape.Kind.TheVariants.{Number, Utf8, Raw}
-use Rattle.mum_fields.specs.declared.shape.Label.{Label}
-use Rattle.mum_fields.specs.declared.shape.Label.TheVariants.{Optional, Required, RequiredOr, Repeated}
-use Rattle.mum_fields.specs.Table.{Layout, Nothing, Field, Blocks, One, Value, Values, each_item, each_message, items, layout, one_item, parts, row_items, scalar_number, spelled}
-use Rattle.mum_fields.specs.Varint.{shortest, shortest_with}
-use Rattle.mum_fields.specs.Written.{Item, block_item, block_items, each_block, each_number, number_items, spelling, varint_item, written}
-use Rattle.mum_msg_rule.specs.Messages.{permission_query}
-use Rattle.mum_msg_rule.specs.declared.permission_query.PermissionQuery.{PermissionQuery}
-use Rattle.mum_msg_state.specs.Messages.{channel_remove, channel_state, codec_version, server_sync, user_remove, user_state, version}
-use Rattle.mum_msg_state.specs.declared.channel_remove.ChannelRemove.{ChannelRemove}
-use Rattle.mum_msg_state.specs.declared.channel_state.ChannelState.{ChannelState}
-use Rattle.mum_msg_state.specs.declared.codec_version.CodecVersion.{CodecVersion}
-use Rattle.mum_msg_state.specs.declared.server_sync.ServerSync.{ServerSync}
-use Rattle.mum_msg_state.specs.declared.user_remove.UserRemove.{UserRemove}
-use Rattle.mum_msg_state.specs.declared.user_state.UserState.{UserState}
-use Rattle.mum_msg_state.specs.declared.version.Version.{Version}
-use Rattle.mum_notify.specs.Parcels.{IsWithinFrame, channel_gone_payload, channel_payload, codecs_payload, permissions_payload, sync_payload, user_gone_payload, user_payload, version_payload}
+use Rattle.mum_notify.proofs.Common.{◌≡◌, ℕ, zero, suc, ◌+◌, ◌*◌, ◌≤◌, ◌/◌, Bool, true, false, List, [], ◌∷◌, ◌++◌, length, Option, Some, None, refl, ap, arith, nat_lt, length-append, Kind, Number, Utf8, Raw, Label, Optional, Required, RequiredOr, Repeated, Layout, Nothing, Field, Blocks, One, Value, Values, each_item, each_message, items, layout, one_item, parts, row_items, scalar_number, spelled, shortest, shortest_with, Item, block_item, block_items, each_block, each_number, number_items, spelling, varint_item, written, permission_query, PermissionQuery, channel_remove, channel_state, codec_version, server_sync, user_remove, user_state, version, ChannelRemove, ChannelState, CodecVersion, ServerSync, UserRemove, UserState, Version, IsWithinFrame, channel_gone_payload, channel_payload, codecs_payload, permissions_payload, sync_payload, user_gone_payload, user_payload, version_payload}
 
 -- ---- items
 

@@ -1,20 +1,5 @@
 -- Channels, sorted by their parents, are the children of each.
-use Rattle.std.proofs.Common.{◌≡◌, ℕ, zero, suc, ◌-◌, ◌<◌, ◌≤◌, ◌==◌, ◌&&◌, Bool, true, false, not, cond, nat_le, nat_lt, List, [], ◌∷◌, ◌++◌, length, map, filter, get_or, refl, sym, ap, ◌∙◌, append_assoc, arith}
-use Rattle.std.proofs.lemmas.List.{append-nil}
-use Rattle.std.proofs.lemmas.List.Folds.{flat_map-map}
-use Rattle.std.proofs.lemmas.Bool.Decides.{nat_tests}
-use Rattle.std.specs.Prelude.{IsTrue}
-use Rattle.std.specs.List.{flat_map}
-use Rattle.std.specs.List.Sorted.{IsNonDecreasingBy, IsStableByKey, ties}
-use Rattle.std.specs.Ordering.{is_lt, nat_cmp}
-use Rattle.mum_base.specs.declared.number.ChannelId.{ChannelId}
-use Rattle.mum_tree.specs.Refusals.{parent_of}
-use Rattle.mum_tree.specs.Rows.{is_root}
-use Rattle.mum_tree.specs.State.{TreeState}
-use Rattle.mum_users.specs.Order.{IsBelowAll, Rises}
-use Rattle.mum_notify.specs.Channels.{channel_ids, children, family, is_child}
-use Rattle.mum_notify.specs.Child.{is_not_after, is_under, children_in, children_of}
-use Rattle.mum_notify.specs.declared.children.Child.{Child}
+use Rattle.mum_notify.proofs.Common.{◌≡◌, ℕ, zero, suc, ◌-◌, ◌<◌, ◌≤◌, ◌==◌, ◌&&◌, Bool, true, false, not, cond, nat_le, nat_lt, List, [], ◌∷◌, ◌++◌, length, map, filter, get_or, refl, sym, ap, ◌∙◌, append_assoc, arith, append-nil, flat_map-map, nat_tests, IsTrue, flat_map, IsNonDecreasingBy, IsStableByKey, ties, is_lt, nat_cmp, ChannelId, parent_of, is_root, TreeState, IsBelowAll, Rises, channel_ids, children, family, is_child, is_not_after, is_under, children_in, children_of, Child}
 
 no_lower : (a b : ℕ) → a ≤ b → IsTrue (nat_le a b)
 no_lower a b less = grind (arith, nat_tests)
@@ -94,7 +79,7 @@ unfolding family
 family_of kids zero id some = absurd (omega arith)
 family_of kids (suc levels) id some = let less : suc levels - 1 ≡ levels = omega arith in ap (λ n. id ∷ flat_map (family kids n) (kids id)) (sym less)
 
--- where those of all listed under a channel are told behind it, its family is
+-- where those of all listed under a channel are sent after it, its family is
 pub family_told : (listed : List Child) (levels : ℕ) (id : ChannelId) (under : List Child) (old now : List ChannelId) → 0 < levels → under ≡ filter (is_under id) listed → now ≡ (old ++ id ∷ []) ++ flat_map (λ (child : Child). family (children_in listed) (levels - 1) child.id) under → now ≡ old ++ family (children_in listed) levels id
 family_told listed levels id under old now some is told =
     let f : ChannelId → List ChannelId = family (children_in listed) (levels - 1) in

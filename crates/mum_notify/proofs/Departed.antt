@@ -1,40 +1,6 @@
--- A temporary channel that goes is told of.
-use Rattle.std.proofs.Common.{◌≡◌, ℕ, ◌==◌, ◌&&◌, ◌||◌, Bool, true, false, not, cond, List, [], ◌∷◌, ◌++◌, map, filter, Option, Some, None, refl, sym, ap, ◌∙◌}
-use Rattle.std.specs.Prelude.{is_some, ⊤}
-use Rattle.std.specs.List.{list_any}
-use Rattle.std.specs.Option.{option_map_or}
-use Rattle.std.proofs.lemmas.Bool.{and_from, both_ways, eq-eqb, eqb-true, false≢true}
-use Rattle.std.proofs.lemmas.List.Folds.{list_any-append}
-use Rattle.mum_base.specs.Channels.{is_among}
-use Rattle.mum_base.specs.declared.number.ChannelId.{ChannelId}
-use Rattle.mum_tree.specs.Places.{least_place}
-use Rattle.mum_tree.specs.Rows.{is_below, is_temporary, is_there, number, row_of}
-use Rattle.mum_tree.specs.State.{TreeState, new_row, with_info, with_new, without_subtree}
-use Rattle.mum_tree.specs.declared.channel.Channel.{Channel}
-use Rattle.mum_tree.specs.declared.channel.ChannelInfo.{ChannelInfo}
-use Rattle.mum_tree.specs.declared.channel.Row.{Row}
-use Rattle.mum_tree.proofs.Changed.{row_of-map, some_to}
-use Rattle.mum_tree.proofs.Edited.{still_given}
-use Rattle.mum_tree.proofs.Grown.{row_of_old}
-use Rattle.mum_state.specs.Applied.{applied}
-use Rattle.mum_state.specs.Emptied.{has_member}
-use Rattle.mum_state.specs.Fits.{fits}
-use Rattle.mum_state.specs.Followed.{left_by, with_left_closed}
-use Rattle.mum_state.specs.Named.{given}
-use Rattle.mum_state.specs.Parts.{channel_parts}
-use Rattle.mum_state.specs.Proper.{IsProper}
-use Rattle.mum_state.specs.Set.{set_by, with_tree}
-use Rattle.mum_state.specs.State.{StateValue}
-use Rattle.mum_state.specs.declared.edit.Edit.{Edit}
-use Rattle.mum_state.specs.declared.edit.Edit.TheVariants.{EditChannel, MakeChannel, RemoveChannel}
-use Rattle.mum_state.proofs.Emptying.{alone}
-use Rattle.mum_state.proofs.Gone.{there_without_subtree}
-use Rattle.mum_state.proofs.Keeping.{fit_proper}
-use Rattle.mum_state.proofs.Leftover.{left_alone}
-use Rattle.mum_notify.specs.Channels.{channel_ids}
-use Rattle.mum_notify.specs.Gone.{channels_gone, is_told_gone}
-use Rattle.mum_notify.proofs.Families.{Parts, parts_kept, parts_there, same_channel}
-use Rattle.mum_notify.proofs.Standing.{applied_tree, changed_number}
+-- A temporary channel that goes is reported.
+use Rattle.mum_notify.proofs.Common.{◌≡◌, ℕ, ◌==◌, ◌&&◌, ◌||◌, Bool, true, false, not, cond, List, [], ◌∷◌, ◌++◌, map, filter, Option, Some, None, refl, sym, ap, ◌∙◌, is_some, ⊤, list_any, option_map_or, and_from, both_ways, eq-eqb, eqb-true, false≢true, list_any-append, is_among, ChannelId, least_place, is_below, is_temporary, is_there, number, row_of, TreeState, new_row, with_info, with_new, without_subtree, Channel, ChannelInfo, Row, row_of-map, some_to, still_given, row_of_old, applied, has_member, fits, left_by, with_left_closed, given, channel_parts, IsProper, set_by, with_tree, StateValue, Edit, EditChannel, MakeChannel, RemoveChannel, alone, there_without_subtree, fit_proper, left_alone, channel_ids, channels_gone, is_told_gone}
+use Rattle.mum_notify.proofs.{Families.Parts, Families.parts_kept, Families.parts_there, Families.same_channel, Standing.applied_tree, Standing.changed_number}
 
 or_on : (a b : Bool) → b ≡ true → (a || b) ≡ true
 or_on true b on = refl

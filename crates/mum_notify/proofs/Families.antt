@@ -1,26 +1,7 @@
--- Each channel stands behind its parent in the order of the tree.
-use Rattle.std.proofs.Common.{◌≡◌, ℕ, zero, suc, ◌+◌, ◌<◌, ◌==◌, Bool, true, false, not, cond, List, [], ◌∷◌, ◌++◌, map, filter, Option, Some, None, refl, sym, ap, ◌∙◌, arith, append_assoc, subst}
-use Rattle.std.specs.Prelude.{is_some}
-use Rattle.std.specs.List.{Contains, flat_map}
-use Rattle.std.specs.Option.{option_map, option_map_or}
-use Rattle.std.proofs.lemmas.Bool.{and_from, eqb-true, eq-eqb}
-use Rattle.std.proofs.lemmas.Grind.{flat_map-append}
-use Rattle.std.proofs.lemmas.List.{append-nil}
-use Rattle.std.proofs.lemmas.List.Elements.{filter-append}
-use Rattle.mum_base.specs.declared.number.ChannelId.{ChannelId}
-use Rattle.mum_base.specs.declared.number.TheConstants.ChannelId.{ROOT}
-use Rattle.mum_tree.specs.Refusals.{parent_of}
-use Rattle.mum_tree.specs.Rows.{is_root, row_of, upward}
-use Rattle.mum_tree.specs.State.{TreeState}
-use Rattle.mum_tree.specs.declared.channel.Channel.{Channel}
-use Rattle.mum_tree.specs.declared.channel.Row.{Row}
-use Rattle.mum_tree.proofs.Upward.{lead_parent, none_contained, there_from_lead, upward_zero}
-use Rattle.mum_state.specs.Proper.{IsProper}
-use Rattle.mum_state.specs.State.{StateValue}
-use Rattle.mum_notify.specs.Channels.{channel_ids, channel_of, children, family, is_child}
-use Rattle.mum_notify.specs.Sync.{tree_order}
+-- Each channel comes after its parent in the order of the tree.
+use Rattle.mum_notify.proofs.Common.{◌≡◌, ℕ, zero, suc, ◌+◌, ◌<◌, ◌==◌, Bool, true, false, not, cond, List, [], ◌∷◌, ◌++◌, map, filter, Option, Some, None, refl, sym, ap, ◌∙◌, arith, append_assoc, subst, is_some, Contains, flat_map, option_map, option_map_or, and_from, eqb-true, eq-eqb, flat_map-append, append-nil, filter-append, ChannelId, ROOT, parent_of, is_root, row_of, upward, TreeState, Channel, Row, lead_parent, none_contained, there_from_lead, upward_zero, IsProper, StateValue, channel_ids, channel_of, children, family, is_child, tree_order}
 
--- ---- where an element stands, a list parts
+-- ---- a list is split where an element is
 
 pub record Parts {X : Type 0} (xs : List X) (x : X) : Type 0 where
   pub front : List X
@@ -37,11 +18,11 @@ parts_kept {X} p xs x on parts = record {
   is = ap (filter p) parts.is ∙ filter-append p parts.front (x ∷ parts.back) ∙ ap (λ (ys : List X). filter p parts.front ++ ys) (filter_kept p x parts.back on);
 }
 
--- numbers tell channels apart
+-- numbers distinguish channels
 pub same_channel : (one other : ChannelId) → one.0 ≡ other.0 → one ≡ other
 same_channel one other same = let made : ℕ → ChannelId = λ number. record { 0 = number } in ap made same
 
--- a channel that is there stands in the list of all
+-- a channel that is there is in the list of all
 pub parts_there : (rows : List Row) (id : ChannelId) (row : Row) → row_of rows id ≡ Some row → Parts (map (λ (one : Row). one.channel.id) rows) id
 parts_there [] id row there = cc
 parts_there (first ∷ rows) id row there = step (first.channel.id.0 == id.0) refl there (parts_there rows id row)
@@ -68,13 +49,13 @@ parts_children tree id row there other =
 
 -- ---- families within families
 
--- a family stands whole in that of a channel above
+-- a family is whole in that of a channel above
 pub record Stands (kids : ChannelId → List ChannelId) (whole : List ChannelId) (low : ℕ) (id : ChannelId) : Type 0 where
   pub front : List ChannelId
   pub back : List ChannelId
   pub is : whole ≡ front ++ family kids low id ++ back
 
--- so many levels are left for it, of those that the whole has
+-- n levels are left for it, of those that the whole has
 pub record HasLevels (kids : ChannelId → List ChannelId) (whole : List ChannelId) (least : ℕ) (id : ChannelId) : Type 0 where
   pub low : ℕ
   pub enough : least < low
@@ -86,7 +67,7 @@ itself kids levels id = record { front = []; back = []; is = sym (append-nil (fa
 regrouped : (front : List ChannelId) (id : ChannelId) (early own late back : List ChannelId) → front ++ (id ∷ (early ++ (own ++ late))) ++ back ≡ (front ++ id ∷ early) ++ own ++ (late ++ back)
 regrouped front id early own late back = simp append_assoc
 
--- below a channel stands the family of each of its children
+-- below a channel is the family of each of its children
 one_down : (kids : ChannelId → List ChannelId) (whole : List ChannelId) (low : ℕ) (above id : ChannelId) → Parts (kids above) id → Stands kids whole (suc low) above → Stands kids whole low id
 unfolding family
 one_down kids whole low above id parts stands =
@@ -103,7 +84,7 @@ step_down : (kids : ChannelId → List ChannelId) (whole : List ChannelId) (leas
 step_down kids whole least zero above id enough parts stands = absurd (omega arith)
 step_down kids whole least (suc low) above id enough parts stands = record { low = low; enough = omega arith; stands = one_down kids whole low above id parts stands }
 
--- from where parents lead to the root in so many steps, the family stands in that of the root
+-- from where parents lead to the root in n steps, the family is in that of the root
 under_root : (tree : TreeState) (steps least levels : ℕ) (id : ChannelId) → steps + least ≡ levels → Contains (upward tree.channels steps id) ROOT → HasLevels (children tree) (family (children tree) levels ROOT) least id
 under_root tree zero least levels id all lead = absurd (none_contained ROOT (subst_lead (upward_zero tree.channels id) lead))
   where
@@ -125,7 +106,7 @@ under_root tree (suc steps) least levels id all lead =
 behind_grouped : (front : List ChannelId) (above : ChannelId) (early : List ChannelId) (id : ChannelId) (own late back : List ChannelId) → front ++ (above ∷ (early ++ ((id ∷ own) ++ late))) ++ back ≡ front ++ above ∷ early ++ id ∷ (own ++ (late ++ back))
 behind_grouped front above early id own late back = simp append_assoc
 
--- behind a channel stands each of its children
+-- after a channel comes each of its children
 child_behind : (kids : ChannelId → List ChannelId) (whole : List ChannelId) (low : ℕ) (above id : ChannelId) → 1 < low → Parts (kids above) id → Stands kids whole low above → (before between below : List ChannelId) × (whole ≡ before ++ above ∷ between ++ id ∷ below)
 unfolding family
 child_behind kids whole zero above id enough parts stands = absurd (omega arith)

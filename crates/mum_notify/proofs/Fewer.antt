@@ -1,6 +1,5 @@
 -- Elements that are taken off the end of a list.
-use Rattle.std.proofs.Common.{◌≡◌, ◌∙◌, ℕ, ◌+◌, ◌-◌, ◌≤◌, List, length, take, ap, arith}
-use Rattle.std.proofs.lemmas.List.{length-take-le, take-take}
+use Rattle.mum_notify.proofs.Common.{◌≡◌, ◌∙◌, ℕ, ◌+◌, ◌-◌, ◌≤◌, List, length, take, ap, arith, length-take-le, take-take}
 
 -- one more
 pub take-fewer : {X : Type 0} (xs : List X) (n : ℕ) → take (length (take (length xs - n) xs) - 1) (take (length xs - n) xs) ≡ take (length xs - (n + 1)) xs

@@ -1,3 +1,5 @@
+mod Common
+pub mod Public
 pub mod Bounds
 pub mod Departed
 pub mod Families

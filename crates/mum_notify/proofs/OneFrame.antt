@@ -1,36 +1,7 @@
 -- Each parcel is one whole frame within the limit of a frame.
-use Rattle.std.proofs.Common.{◌≡◌, ℕ, ◌<◌, Bool, true, false, cond, List, [], ◌∷◌, ◌++◌, map, filter, Option, Some, None, refl, arith}
-use Rattle.std.specs.List.{All, flat_map}
-use Rattle.std.specs.Option.{option_map_or}
-use Rattle.std.proofs.lemmas.List.Elements.{All-append, All-cons, All-map, All-nil, All-weaker}
-use Rattle.mum_base.specs.declared.number.ChannelId.{ChannelId}
-use Rattle.mum_base.specs.declared.number.SessionId.{SessionId}
-use Rattle.mum_frame.specs.Frame.{IsOneFrame, spelling_of}
-use Rattle.mum_frame.specs.declared.kind.TheConstants.{CHANNEL_REMOVE, CHANNEL_STATE, CODEC_VERSION, PERMISSION_QUERY, SERVER_SYNC, TEXT_MESSAGE, USER_REMOVE, USER_STATE, VERSION}
-use Rattle.mum_msg_state.specs.declared.channel_state.ChannelState.{ChannelState}
-use Rattle.mum_msg_state.specs.declared.user_state.UserState.{UserState}
-use Rattle.mum_tree.specs.declared.channel.Channel.{Channel}
-use Rattle.mum_users.specs.Sessions.{session_of}
-use Rattle.mum_users.specs.declared.user.User.{User}
-use Rattle.mum_state.specs.Named.{given}
-use Rattle.mum_state.specs.Proper.{IsProper, is_sound_user}
-use Rattle.mum_state.specs.State.{StateValue}
-use Rattle.mum_state.specs.declared.edit.Edit.{Edit}
-use Rattle.mum_state.specs.declared.edit.Edit.TheVariants.{Join, Kick, Leave, MakeChannel, SetAcl, Text}
-use Rattle.mum_state.proofs.Listed.{all_at}
-use Rattle.mum_notify.specs.Channels.{channel_change_told, channel_changes_told, channel_difference, channel_ids, channel_of, channel_told, edited_channels, has_links, if_it_tells, links_told, new_channels_told, tells_of_channel}
-use Rattle.mum_notify.specs.Gone.{channel_gone, channels_gone, departure, last_parcel, user_kicked, user_left}
-use Rattle.mum_notify.specs.Notices.{FitsFrame, arrival, closes, notices, others}
-use Rattle.mum_notify.specs.Parcels.{IsWithinFrame, all_to_each, channel_frame, channel_gone_frame, channel_gone_payload, channel_payload, codecs_frame, codecs_payload, parcel, permissions_payload, sync_frame, sync_payload, text_frame, text_payload, to_each, user_frame, user_gone_frame, user_gone_payload, user_payload, version_frame, version_payload}
-use Rattle.mum_notify.specs.Sync.{all_links_told, server_codecs, server_version, sync_block, sync_frames, sync_parcels, tree_order, tree_told, welcome_told}
-use Rattle.mum_notify.specs.Texts.{is_for, permission_parcel, permission_parcels, permissions_told, text_parcels, text_told}
-use Rattle.mum_notify.specs.Users.{tells_of_user, user_change_told, user_changes_told, user_difference, user_told, watched, whom_to_watch}
-use Rattle.mum_notify.specs.declared.notice.Notice.{Notice}
-use Rattle.mum_notify.specs.declared.watch.Watch.{Watch}
-use Rattle.mum_notify.specs.declared.watch.Watch.TheVariants.{Everybody, Nobody, One}
-use Rattle.mum_notify.proofs.Bounds.{channel_gone_within, codecs_within, permissions_within}
-use Rattle.mum_notify.proofs.Told.{all_of_eight, any_of, pieces_of}
-use Rattle.mum_notify.proofs.Within.{channel_change_within, channel_told_within, links_within, server_version_within, user_change_within, user_left_within, user_sound, user_told_within, welcome_within}
+use Rattle.mum_notify.proofs.Common.{◌≡◌, ℕ, ◌<◌, Bool, true, false, cond, List, [], ◌∷◌, ◌++◌, map, filter, Option, Some, None, refl, arith, All, flat_map, option_map_or, All-append, All-cons, All-map, All-nil, All-weaker, ChannelId, SessionId, IsOneFrame, spelling_of, CHANNEL_REMOVE, CHANNEL_STATE, CODEC_VERSION, PERMISSION_QUERY, SERVER_SYNC, TEXT_MESSAGE, USER_REMOVE, USER_STATE, VERSION, ChannelState, UserState, Channel, session_of, User, given, IsProper, is_sound_user, StateValue, Edit, Join, Kick, Leave, MakeChannel, SetAcl, Text, all_at, channel_change_told, channel_changes_told, channel_difference, channel_ids, channel_of, channel_told, edited_channels, has_links, if_it_tells, links_told, new_channels_told, tells_of_channel, channel_gone, channels_gone, departure, last_parcel, user_kicked, user_left, FitsFrame, arrival, closes, notices, others, IsWithinFrame, all_to_each, channel_frame, channel_gone_frame, channel_gone_payload, channel_payload, codecs_frame, codecs_payload, parcel, permissions_payload, sync_frame, sync_payload, text_frame, text_payload, to_each, user_frame, user_gone_frame, user_gone_payload, user_payload, version_frame, version_payload, all_links_told, server_codecs, server_version, sync_block, sync_frames, sync_parcels, tree_order, tree_told, welcome_told, is_for, permission_parcel, permission_parcels, permissions_told, text_parcels, text_told, tells_of_user, user_change_told, user_changes_told, user_difference, user_told, watched, whom_to_watch, Notice, Watch, Everybody, Nobody}
+use Rattle.mum_notify.specs.declared.watch.Watch.TheVariants.{One}
+use Rattle.mum_notify.proofs.{Bounds.channel_gone_within, Bounds.codecs_within, Bounds.permissions_within, Told.all_of_eight, Told.any_of, Told.pieces_of, Within.channel_change_within, Within.channel_told_within, Within.links_within, Within.server_version_within, Within.user_change_within, Within.user_left_within, Within.user_sound, Within.user_told_within, Within.welcome_within}
 
 one_frame : (kind : ℕ) (payload : List ℕ) → kind < 65536 → IsWithinFrame payload → IsOneFrame (spelling_of kind payload)
 one_frame kind payload fits within = (record { kind = kind; payload = payload }, record { kind_fits = fits; within_limit = within }, refl)

@@ -1,10 +1,5 @@
 -- One more piece of a list that is made of pieces.
-use Rattle.std.proofs.Common.{◌≡◌, ℕ, zero, suc, ◌+◌, ◌<◌, ◌≤◌, Bool, true, false, cond, List, [], ◌∷◌, ◌++◌, length, map, filter, take, get_or, Option, Some, None, refl, sym, ap, ◌∙◌, append_assoc, arith}
-use Rattle.std.specs.Prelude.{slice_get}
-use Rattle.std.specs.List.{flat_map}
-use Rattle.std.proofs.lemmas.List.{append-nil, flat_map_more, get_or_default, length-append, map-append, take_all, take_more}
-use Rattle.std.proofs.lemmas.Option.{get_or_from_slice_get, slice_get_within}
-use Rattle.std.proofs.lemmas.List.Elements.{filter-append}
+use Rattle.mum_notify.proofs.Common.{◌≡◌, ℕ, zero, suc, ◌+◌, ◌<◌, ◌≤◌, Bool, true, false, cond, List, [], ◌∷◌, ◌++◌, length, map, filter, take, get_or, Option, Some, None, refl, sym, ap, ◌∙◌, append_assoc, arith, slice_get, flat_map, append-nil, flat_map_more, get_or_default, length-append, map-append, take_all, take_more, get_or_from_slice_get, slice_get_within, filter-append}
 
 taken : {X : Type 0} (xs : List X) (i : ℕ) (x : X) → i < length xs → x ≡ get_or xs i x → take i xs ++ x ∷ [] ≡ take (i + 1) xs
 taken {X} xs i x within is = ap (λ (y : X). take i xs ++ y ∷ []) is ∙ sym (take_more xs i x within)
@@ -15,7 +10,7 @@ pieces_more {X} {Y} f old xs i x before now within is done added =
     added ∙ ap (λ (ys : List Y). ys ++ f x) done ∙ append_assoc old (flat_map f (take i xs)) (f x)
     ∙ ap (λ (ys : List Y). old ++ ys) (flat_map_more f [] (take i xs) x ∙ ap (λ (ys : List X). flat_map f ys) (taken xs i x within is))
 
--- the same where each element of a piece is told
+-- the same where each element of a piece is sent
 pub told_more : {X Y Z : Type 0} (g : Y → Z) (f : X → List Y) (old : List Z) (xs : List X) (i : ℕ) (x : X) (before now : List Z) → i < length xs → x ≡ get_or xs i x → before ≡ old ++ map g (flat_map f (take i xs)) → now ≡ before ++ map g (f x) → now ≡ old ++ map g (flat_map f (take (i + 1) xs))
 told_more {X} {Y} {Z} g f old xs i x before now within is done added =
     added ∙ ap (λ (ys : List Z). ys ++ map g (f x)) done ∙ append_assoc old (map g (flat_map f (take i xs))) (map g (f x))
@@ -27,7 +22,7 @@ pub told_at : {X Y Z : Type 0} (g : Y → Z) (f : X → List Y) (old : List Z) (
 told_at g f old xs i d before now within done added =
     told_more g f old xs i (get_or xs i d) before now within (get_or_default xs i d (get_or xs i d) within) done added
 
--- one more that is told
+-- one more that is sent
 pub mapped_more : {X Y : Type 0} (f : X → Y) (old : List Y) (xs : List X) (i : ℕ) (x : X) (before now : List Y) → i < length xs → x ≡ get_or xs i x → before ≡ old ++ map f (take i xs) → now ≡ before ++ f x ∷ [] → now ≡ old ++ map f (take (i + 1) xs)
 mapped_more {X} {Y} f old xs i x before now within is done added =
     added ∙ ap (λ (ys : List Y). ys ++ f x ∷ []) done ∙ append_assoc old (map f (take i xs)) (f x ∷ [])

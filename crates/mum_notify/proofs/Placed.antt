@@ -1,14 +1,5 @@
 -- A channel at its place among channels in order of number.
-use Rattle.std.proofs.Common.{◌≡◌, ℕ, suc, ◌+◌, ◌==◌, Bool, true, false, not, cond, nat_lt, List, [], ◌∷◌, ◌++◌, fold, refl, sym, ap, ◌∙◌, arith, IsTrue}
-use Rattle.std.specs.List.{insert}
-use Rattle.std.proofs.lemmas.Bool.{false≢true}
-use Rattle.std.proofs.lemmas.Bool.Decides.{nat_tests}
-use Rattle.std.proofs.lemmas.List.Sums.{fold-append}
-use Rattle.mum_base.specs.declared.number.ChannelId.{ChannelId}
-use Rattle.mum_users.specs.Order.{IsBelowAll, Rises}
-use Rattle.mum_users.proofs.Orders.{IsBelowAll-through}
-use Rattle.mum_users.proofs.Places.{one_more}
-use Rattle.mum_notify.specs.Channels.{in_order, is_lower, place_for, stands_at, with_channel}
+use Rattle.mum_notify.proofs.Common.{◌≡◌, ℕ, suc, ◌+◌, ◌==◌, Bool, true, false, not, cond, nat_lt, List, [], ◌∷◌, ◌++◌, fold, refl, sym, ap, ◌∙◌, arith, IsTrue, insert, false≢true, nat_tests, fold-append, ChannelId, IsBelowAll, Rises, IsBelowAll-through, one_more, in_order, is_lower, place_for, stands_at, with_channel}
 
 -- the first that is not lower, and what comes of it
 first_lower : (id x : ChannelId) (xs : List ChannelId) → nat_lt x.0 id.0 ≡ true → place_for id (x ∷ xs) ≡ suc (place_for id xs)
@@ -85,7 +76,7 @@ put_in id ids seen again now place e f found stands added =
     added ∙ ap (λ n. insert ids n id) (found ∙ ap (place_for id) e)
     ∙ placed_in id ids (ap (λ n. stands_at ids n id) (sym (found ∙ ap (place_for id) e)) ∙ ap (λ (xs : List ChannelId). stands_at xs place id) (sym f) ∙ sym stands)
 
--- a channel, then those that are linked to it, then those that are parted from it
+-- a channel, then those that are linked to it, then those that are unlinked from it
 pub placed_all : (id : ChannelId) (adds removes first second third : List ChannelId) → first ≡ with_channel id [] → second ≡ fold (λ ordered one. with_channel one ordered) first adds → third ≡ fold (λ ordered one. with_channel one ordered) second removes
     → third ≡ in_order (id ∷ adds ++ removes)
 placed_all id adds removes first second third one two three =

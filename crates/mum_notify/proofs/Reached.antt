@@ -1,28 +1,7 @@
 -- What is looked up in order is what a text names.
-use Rattle.std.proofs.Common.{◌≡◌, ℕ, ◌==◌, ◌||◌, ◌&&◌, ◌∙◌, Bool, true, false, not, List, [], ◌∷◌, length, map, get_or, Result, Ok, Err, inl, inr, refl, sym, ap, arith}
-use Rattle.std.specs.Cmp.{nat_cmp_total}
-use Rattle.std.specs.List.{All, list_any}
-use Rattle.std.specs.List.Sorted.{IsBinarySearchResult, IsSearchInRange, IsSorted}
-use Rattle.std.specs.Ordering.{nat_cmp}
-use Rattle.std.specs.Result.{is_ok}
-use Rattle.std.specs.declared.cmp.Ordering.TheVariants.{Less, Equal, Greater}
-use Rattle.std.proofs.lemmas.Bool.{cases_lt}
-use Rattle.std.proofs.lemmas.Bool.Decides.{nat_tests}
-use Rattle.std.proofs.lemmas.List.Folds.{list_any_at, list_any_none}
-use Rattle.std.proofs.lemmas.List.Sorted.{searchable_from_sorted}
-use Rattle.mum_base.specs.Channels.{is_among}
-use Rattle.mum_base.specs.declared.number.ChannelId.{ChannelId}
-use Rattle.mum_base.specs.declared.number.SessionId.{SessionId}
-use Rattle.mum_tree.specs.Rows.{is_below, path}
-use Rattle.mum_tree.specs.declared.channel.Row.{Row}
-use Rattle.mum_users.specs.declared.user.User.{User}
-use Rattle.mum_state.specs.State.{StateValue}
-use Rattle.mum_notify.specs.Channels.{numbers}
-use Rattle.mum_notify.specs.Sorted.{ListAlike, lists}
-use Rattle.mum_notify.specs.Texts.{NamesThese, is_for, is_named, is_reached, may_text, session_numbers}
-use Rattle.mum_notify.specs.declared.texts.Named.{Named}
+use Rattle.mum_notify.proofs.Common.{◌≡◌, ℕ, ◌==◌, ◌||◌, ◌&&◌, ◌∙◌, Bool, true, false, not, List, [], ◌∷◌, length, map, get_or, Result, Ok, Err, inl, inr, refl, sym, ap, arith, nat_cmp_total, All, list_any, IsBinarySearchResult, IsSearchInRange, IsSorted, nat_cmp, is_ok, Less, Equal, Greater, cases_lt, nat_tests, list_any_at, list_any_none, searchable_from_sorted, is_among, ChannelId, SessionId, is_below, path, Row, User, StateValue, numbers, ListAlike, lists, NamesThese, is_for, is_named, is_reached, may_text, session_numbers, Named}
 
--- ---- a search by halving
+-- ---- binary search
 
 same_number : (a b : ℕ) → nat_cmp a b ≡ Equal → (a == b) ≡ true
 same_number a b same = grind (arith, nat_tests)
@@ -44,7 +23,7 @@ found_by_halving xs n sorted (Err i) within parted = sym (list_any_none (λ one.
       | inr above ↦ higher_number (get_or xs j d) n ((parted (searchable_from_sorted nat_cmp_total (λ (y : ℕ). y) xs n sorted)).1 j d above lt)
     ]
 
--- ---- lists that are gone over
+-- ---- lists that are scanned
 
 any_same : {X : Type 0} (p q : X → Bool) → ((x : X) → p x ≡ q x) → (xs : List X) → list_any p xs ≡ list_any q xs
 any_same p q same [] = refl
@@ -68,7 +47,7 @@ any_or : {X : Type 0} (p q : X → Bool) (xs : List X) → list_any (λ x. p x |
 any_or p q [] = refl
 any_or p q (x ∷ xs) = ap (λ (b : Bool). (p x || q x) || b) (any_or p q xs) ∙ crossed (p x) (q x) (list_any p xs) (list_any q xs)
 
--- whether one of these and one of those belong together, whichever are gone over first
+-- whether one of these and one of those belong together, whichever are scanned first
 any_swap : {X Y : Type 0} (r : X → Y → Bool) (xs : List X) (ys : List Y) → list_any (λ x. list_any (r x) ys) xs ≡ list_any (λ y. list_any (λ x. r x y) xs) ys
 any_swap r [] ys = sym (none_of ys)
 any_swap r (x ∷ xs) ys = ap (λ (b : Bool). list_any (r x) ys || b) (any_swap r xs ys) ∙ sym (any_or (r x) (λ y. list_any (λ x. r x y) xs) ys)

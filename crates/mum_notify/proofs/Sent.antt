@@ -1,36 +1,5 @@
--- What is sent of a text, and of one that goes, is what is told of it.
-use Rattle.std.proofs.Common.{◌≡◌, ℕ, ◌<◌, ◌++◌, ◌∙◌, Bool, true, false, not, cond, get_or, length, List, [], ◌∷◌, map, filter, Option, Some, None, Result, Ok, Err, sym, ap, append_assoc}
-use Rattle.std.specs.List.{flat_map, list_all}
-use Rattle.std.proofs.lemmas.Bool.{false≢true}
-use Rattle.std.proofs.lemmas.List.{append-nil}
-use Rattle.std.specs.Result.{OnOk}
-use Rattle.mum_base.specs.declared.number.AccountId.{AccountId}
-use Rattle.mum_base.specs.declared.number.ChannelId.{ChannelId}
-use Rattle.mum_base.specs.declared.number.SessionId.{SessionId}
-use Rattle.mum_base.specs.declared.number.Slot.{Slot}
-use Rattle.mum_msg_rule.specs.declared.text_message.TextMessage.{TextMessage}
-use Rattle.mum_msg_state.specs.declared.user_remove.UserRemove.{UserRemove}
-use Rattle.mum_msg_state.specs.declared.user_state.UserState.{UserState}
-use Rattle.mum_users.specs.Sessions.{session_of}
-use Rattle.mum_users.specs.State.{RosterState, has_number}
-use Rattle.mum_users.specs.declared.user.User.{User}
-use Rattle.mum_base.specs.declared.number.TheConstants.ChannelId.{ROOT}
-use Rattle.mum_tree.specs.Rows.{is_there}
-use Rattle.mum_tree.specs.declared.channel.Row.{Row}
-use Rattle.std.specs.Option.{is_some}
-use Rattle.mum_state.proofs.Listed.{all_at}
-use Rattle.mum_state.specs.Named.{given}
-use Rattle.mum_state.specs.Proper.{IsProper}
-use Rattle.mum_state.specs.State.{StateValue}
-use Rattle.mum_state.specs.declared.edit.Edit.{Edit}
-use Rattle.mum_state.specs.declared.edit.Edit.TheVariants.{Join, Kick, Leave, Text}
-use Rattle.mum_notify.specs.Gone.{departure, last_parcel, user_kicked, user_left}
-use Rattle.mum_notify.specs.Notices.{FitsFrame, arrival, others}
-use Rattle.mum_notify.specs.Parcels.{IsWithinFrame, all_to_each, text_frame, text_payload, to_each, user_frame, user_gone_frame}
-use Rattle.mum_notify.specs.Sync.{sync_block, sync_parcels}
-use Rattle.mum_notify.specs.Texts.{is_for, permission_parcel, text_parcels, text_told}
-use Rattle.mum_notify.specs.Users.{user_told}
-use Rattle.mum_notify.specs.declared.notice.Notice.{Notice}
+-- What is sent of a text, and of one that goes, is what is reported of it.
+use Rattle.mum_notify.proofs.Common.{◌≡◌, ℕ, ◌<◌, ◌++◌, ◌∙◌, Bool, true, false, not, cond, get_or, length, List, [], ◌∷◌, map, filter, Option, Some, None, Result, Ok, Err, sym, ap, append_assoc, flat_map, list_all, false≢true, append-nil, OnOk, AccountId, ChannelId, SessionId, Slot, TextMessage, UserRemove, UserState, session_of, RosterState, has_number, User, ROOT, is_there, Row, is_some, all_at, given, IsProper, StateValue, Edit, Join, Kick, Leave, Text, departure, last_parcel, user_kicked, user_left, FitsFrame, arrival, others, IsWithinFrame, all_to_each, text_frame, text_payload, to_each, user_frame, user_gone_frame, sync_block, sync_parcels, is_for, permission_parcel, text_parcels, text_told, user_told, Notice}
 use Rattle.mum_notify.proofs.Within.{text_fits}
 
 -- what follows from what holds where all went well
@@ -122,7 +91,7 @@ two_added {X} {Y} {Z} g h old mid now first made one second more two a b c d add
     again ∙ ap (λ (list : List Z). list ++ h two) (added ∙ ap (λ (xs : List X). old ++ g xs) (a ∙ b))
     ∙ ap (λ (ys : List Y). (old ++ g first) ++ h ys) (c ∙ d)
 
--- ---- what one that joins is told first
+-- ---- what one that joins is sent first
 
 pub all_synced : (v c s : List ℕ) (x y z : List (List ℕ)) (none one two three four five : List (List ℕ)) → none ≡ [] → one ≡ none ++ v ∷ [] → two ≡ one ++ c ∷ [] → three ≡ (two ++ x) ++ y → four ≡ three ++ z → five ≡ four ++ s ∷ [] → five ≡ v ∷ c ∷ x ++ y ++ z ++ s ∷ []
 all_synced v c s x y z none one two three four five is one-is two-is three-is four-is five-is =

@@ -1,12 +1,5 @@
 -- One frame goes out by slots.
-use Rattle.std.proofs.Common.{ℕ, zero, suc, ◌+◌, ◌<◌, ◌≤◌, List, [], ◌∷◌, length, get_or, arith}
-use Rattle.std.specs.List.{AllPairs}
-use Rattle.mum_users.specs.Proper.{SlotsRise}
-use Rattle.mum_users.specs.declared.user.User.{User}
-use Rattle.mum_state.specs.Proper.{IsProper}
-use Rattle.mum_state.specs.State.{StateValue}
-use Rattle.mum_notify.specs.Parcels.{to_each}
-use Rattle.mum_notify.specs.declared.notice.Notice.{Notice}
+use Rattle.mum_notify.proofs.Common.{ℕ, zero, suc, ◌+◌, ◌<◌, ◌≤◌, List, [], ◌∷◌, length, get_or, arith, AllPairs, SlotsRise, User, IsProper, StateValue, to_each, Notice}
 
 at_least : (frame : List ℕ) (limit low : ℕ) (users : List User) → SlotsRise limit low users → (j : ℕ) (d : Notice) → j < length (to_each users frame) → low ≤ (get_or (to_each users frame) j d).slot.0
 at_least frame limit low [] rise j d within = absurd (omega arith)

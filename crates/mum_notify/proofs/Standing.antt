@@ -1,45 +1,6 @@
--- A channel that an edit does not name stands.
-use Rattle.std.proofs.Common.{◌≡◌, ℕ, suc, ◌<◌, ◌==◌, ◌&&◌, ◌||◌, Bool, true, false, not, cond, List, [], ◌∷◌, ◌++◌, map, filter, fold, Option, Some, None, refl, sym, ap, ◌∙◌, arith, nat_lt, subst}
-use Rattle.std.specs.Prelude.{is_some}
-use Rattle.std.specs.List.{All, list_any}
-use Rattle.std.specs.Option.{option_map}
-use Rattle.std.proofs.lemmas.Bool.{and_parts, both_ways, eqb-true, false≢true, ltb-true, ne_eqb}
-use Rattle.std.proofs.lemmas.Bool.Decides.{nat_tests}
-use Rattle.mum_base.specs.Channels.{is_among}
-use Rattle.mum_base.specs.declared.number.ChannelId.{ChannelId}
-use Rattle.mum_base.specs.declared.number.SessionId.{SessionId}
-use Rattle.mum_tree.specs.Change.{Change, pairs_with_all, pairs_without_all, with_given}
-use Rattle.mum_tree.specs.Places.{least_place}
-use Rattle.mum_tree.specs.Proper.{IsBetween, IsProper as IsProperTree}
-use Rattle.mum_tree.specs.Rows.{is_below, is_there, number, row_of}
-use Rattle.mum_tree.specs.State.{Pair, TreeState, changed, ends_from, is_above, is_pair, new_row, pairs_with, pairs_without, partners, starts_at, with_info, with_new, with_pair, without_rows, without_subtree}
-use Rattle.mum_tree.specs.declared.channel.Channel.{Channel}
-use Rattle.mum_tree.specs.declared.channel.ChannelInfo.{ChannelInfo}
-use Rattle.mum_tree.specs.declared.channel.Row.{Row}
-use Rattle.mum_users.specs.declared.user.User.{User}
-use Rattle.mum_tree.proofs.Changed.{number_found, row_of-map}
-use Rattle.mum_tree.proofs.Grown.{row_of_old}
-use Rattle.mum_tree.proofs.Shrunk.{kept_row, or_swap, there_after}
-use Rattle.mum_state.specs.Applied.{applied}
-use Rattle.mum_state.specs.Emptied.{has_member, is_emptied, without_emptied}
-use Rattle.mum_state.specs.Fits.{fits, gives_right_numbers, is_countable, sets_properly}
-use Rattle.mum_state.specs.Followed.{left_by, with_left_closed}
-use Rattle.mum_state.specs.Named.{names_there}
-use Rattle.mum_state.specs.Parts.{channel_parts}
-use Rattle.mum_state.specs.Proper.{IsProper}
-use Rattle.mum_state.specs.Set.{set_by, with_tree}
-use Rattle.mum_state.specs.State.{StateValue}
-use Rattle.mum_state.specs.Suppression.{with_clearing, with_suppression}
-use Rattle.mum_state.specs.declared.edit.Edit.{Edit}
-use Rattle.mum_state.specs.declared.edit.Edit.TheVariants.{EditChannel, MakeChannel, RemoveChannel, SetLimits}
-use Rattle.mum_state.proofs.Gone.{there_without_subtree}
-use Rattle.mum_state.proofs.Heard.{clearing_tree, heard_members}
-use Rattle.mum_state.proofs.Keeping.{fit_proper}
-use Rattle.mum_state.proofs.Leftover.{closed_by, left_alone}
-use Rattle.mum_state.proofs.Renewing.{there_known}
-use Rattle.mum_notify.specs.Channels.{channel_of, edited_channels, with_channel}
-use Rattle.mum_notify.proofs.Families.{same_channel}
-use Rattle.mum_notify.proofs.ByParent.{filter_alike}
+-- A channel that an edit does not name stays.
+use Rattle.mum_notify.proofs.Common.{◌≡◌, ℕ, suc, ◌<◌, ◌==◌, ◌&&◌, ◌||◌, Bool, true, false, not, cond, List, [], ◌∷◌, ◌++◌, map, filter, fold, Option, Some, None, refl, sym, ap, ◌∙◌, arith, nat_lt, subst, is_some, All, list_any, option_map, and_parts, both_ways, eqb-true, false≢true, ltb-true, ne_eqb, nat_tests, is_among, ChannelId, SessionId, Change, pairs_with_all, pairs_without_all, with_given, least_place, IsBetween, IsProperTree, is_below, is_there, number, row_of, Pair, TreeState, changed, ends_from, is_above, is_pair, new_row, pairs_with, pairs_without, partners, starts_at, with_info, with_new, with_pair, without_rows, without_subtree, Channel, ChannelInfo, Row, User, number_found, row_of-map, row_of_old, kept_row, or_swap, there_after, applied, has_member, is_emptied, without_emptied, fits, gives_right_numbers, is_countable, sets_properly, left_by, with_left_closed, names_there, channel_parts, IsProper, set_by, with_tree, StateValue, with_clearing, with_suppression, Edit, EditChannel, MakeChannel, RemoveChannel, SetLimits, there_without_subtree, clearing_tree, heard_members, fit_proper, closed_by, left_alone, there_known, channel_of, edited_channels, with_channel}
+use Rattle.mum_notify.proofs.{Families.same_channel, ByParent.filter_alike}
 
 -- ---- tests
 
@@ -127,7 +88,7 @@ among_append x (id ∷ ids) more none =
     let rest = among_append x ids more (off_right (id.0 == x.0) (is_among (ids ++ more) x) none) in
     (ap (λ (t : Bool). t || is_among ids x) (off_left (id.0 == x.0) (is_among (ids ++ more) x) none) ∙ rest.0, rest.1)
 
--- ---- what stands
+-- ---- what is in a list
 
 -- the channel is as it was, where it still is, and is linked to those to which it was, where they still are
 pub record Keeps (before after : TreeState) (id : ChannelId) : Type 0 where
@@ -215,7 +176,7 @@ there_of_channel : (o : Option Row) (channel : Channel) → option_map (λ (row 
 there_of_channel None channel is = cc
 there_of_channel (Some row) channel is = refl
 
--- what stands, and then stands where something is cut away, stands
+-- what is there, and is still there where something is cut away, is there
 then_cut : (before middle : TreeState) (top id : ChannelId) → IsProperTree middle → Keeps before middle id → Keeps before (without_subtree middle top) id
 then_cut before middle top id proper first =
     let second = cut_away middle top id proper in

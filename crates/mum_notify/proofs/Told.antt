@@ -1,27 +1,5 @@
--- What holds of each parcel for a session holds of all that is told.
-use Rattle.std.proofs.Common.{◌≡◌, ◌≢◌, ◌==◌, ◌||◌, ◌∙◌, ap, ℕ, Bool, true, false, not, cond, List, [], ◌∷◌, ◌++◌, map, filter, find, Some, inl, inr, refl, sym, subst, ⊎_elim}
-use Rattle.std.proofs.lemmas.Bool.{and_parts, cases_Bool, eq-eqb, eqb-true, true≢false}
-use Rattle.std.specs.List.{All, Contains, flat_map}
-use Rattle.std.proofs.lemmas.List.Elements.{All-append, All-cons, All-contains_itself, All-filter, All-head, All-map, All-nil, All-tail, All-weaker, filter_passes}
-use Rattle.mum_base.specs.Channels.{is_among}
-use Rattle.mum_base.specs.declared.number.ChannelId.{ChannelId}
-use Rattle.mum_base.specs.declared.number.SessionId.{SessionId}
-use Rattle.mum_users.specs.Sessions.{session_of}
-use Rattle.mum_users.specs.State.{has_number}
-use Rattle.mum_users.specs.declared.user.User.{User}
-use Rattle.mum_state.specs.Named.{given}
-use Rattle.mum_state.specs.State.{StateValue}
-use Rattle.mum_state.specs.declared.edit.Edit.{Edit}
-use Rattle.mum_state.specs.declared.edit.Edit.TheVariants.{Join, Kick, Leave, SetAcl, Text}
-use Rattle.mum_notify.specs.Channels.{channel_changes_told, new_channels_told}
-use Rattle.mum_notify.specs.Gone.{channel_gone, channels_gone, departure, last_parcel, user_kicked, user_left}
-use Rattle.mum_notify.specs.Laws.{IsAddressee, IsFor, kicked}
-use Rattle.mum_notify.specs.Notices.{arrival, closes, notices, others}
-use Rattle.mum_notify.specs.Parcels.{all_to_each, channel_frame, channel_gone_frame, parcel, permissions_frame, text_frame, to_each, user_frame, user_gone_frame}
-use Rattle.mum_notify.specs.Sync.{sync_block, sync_frames, sync_parcels}
-use Rattle.mum_notify.specs.Texts.{is_for, is_in_trees, is_named, permission_parcel, permission_parcels, permissions_told, text_parcels, text_told}
-use Rattle.mum_notify.specs.Users.{user_changes_told, user_told}
-use Rattle.mum_notify.specs.declared.notice.Notice.{Notice}
+-- What holds of each parcel for a session holds of all that is sent.
+use Rattle.mum_notify.proofs.Common.{◌≡◌, ◌≢◌, ◌==◌, ◌||◌, ◌∙◌, ap, ℕ, Bool, true, false, not, cond, List, [], ◌∷◌, ◌++◌, map, filter, find, Some, inl, inr, refl, sym, subst, ⊎_elim, and_parts, cases_Bool, eq-eqb, eqb-true, true≢false, All, Contains, flat_map, All-append, All-cons, All-contains_itself, All-filter, All-head, All-map, All-nil, All-tail, All-weaker, filter_passes, is_among, ChannelId, SessionId, session_of, has_number, User, given, StateValue, Edit, Join, Kick, Leave, SetAcl, Text, channel_changes_told, new_channels_told, channel_gone, channels_gone, departure, last_parcel, user_kicked, user_left, IsAddressee, IsFor, kicked, arrival, closes, notices, others, all_to_each, channel_frame, channel_gone_frame, parcel, permissions_frame, text_frame, to_each, user_frame, user_gone_frame, sync_block, sync_frames, sync_parcels, is_for, is_in_trees, is_named, permission_parcel, permission_parcels, permissions_told, text_parcels, text_told, user_changes_told, user_told, Notice}
 
 -- what holds of all holds of the first that passes
 pub found_of_all : {X : Type 0} (Q : X → Type 0) (p : X → Bool) (xs : List X) → All Q xs → All Q (given (find p xs))
@@ -85,7 +63,7 @@ arrived P state (Join session slot name account tokens) holds =
     (sync_told P state session holds) (others_told P state session (given (session_of state.roster session)) holds)
 arrived P state edit holds = All-nil P
 
--- it holds of each parcel by which a session is put out
+-- it holds of each parcel by which a session is kicked
 abbrev pub HoldsOfKick : (Notice → Type 0) → StateValue → Edit → Type 0
 HoldsOfKick P before edit =
     (session : SessionId) → kicked edit ≡ Some session → (frame : List ℕ) → All (λ user. P (last_parcel session frame user)) before.roster.sessions
@@ -109,7 +87,7 @@ policy_told P after (SetAcl channel actor policy) holds =
     (All-weaker (λ user. (frame : List ℕ) → P (parcel frame user)) (λ user. P (permission_parcel after user)) (λ user any. any (permissions_frame (permissions_told after user))) after.roster.sessions holds)
 policy_told P after edit holds = All-nil P
 
--- what holds of each parcel for a session that is there, and of those by which one is put out, holds of all
+-- what holds of each parcel for a session that is there, and of those by which one is kicked, holds of all
 pub all_told : (P : Notice → Type 0) (before : StateValue) (edit : Edit) (after : StateValue) → HoldsFor P after.roster.sessions → HoldsOfKick P before edit → All P (notices before edit after)
 all_told P before edit after holds kick =
     let here = after.roster.sessions in

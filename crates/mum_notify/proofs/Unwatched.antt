@@ -1,49 +1,6 @@
--- A session that is not looked at stands, and a comment stands where none is given.
-use Rattle.std.proofs.Common.{◌≡◌, ℕ, suc, zero, ◌+◌, ◌<◌, ◌≤◌, ◌==◌, ◌&&◌, ◌||◌, Bool, true, false, not, cond, List, [], ◌∷◌, length, filter, find, get_or, Option, Some, None, refl, sym, ap, ◌∙◌, arith, subst}
-use Rattle.std.specs.Prelude.{is_some, ⊤}
-use Rattle.std.specs.List.{Contains, list_any}
-use Rattle.std.proofs.lemmas.Bool.{and_from, both_ways, eq-eqb, eqb-true, false≢true}
-use Rattle.std.proofs.lemmas.List.Folds.{list_any_at}
-use Rattle.mum_base.specs.Channels.{is_among}
-use Rattle.mum_base.specs.declared.number.ChannelId.{ChannelId}
-use Rattle.mum_base.specs.declared.number.SessionId.{SessionId}
-use Rattle.mum_tree.specs.Refusals.{parent_of}
-use Rattle.mum_tree.specs.Rows.{is_below, is_temporary, is_there}
-use Rattle.mum_tree.specs.State.{TreeState, without_subtree}
-use Rattle.mum_users.specs.Edit.{changed_user, staying, with_channels}
-use Rattle.mum_users.specs.Listeners.{pair_below, pairs_of, with_pair}
-use Rattle.mum_users.specs.Sessions.{free_slot, next_number, next_slot, session_of}
-use Rattle.mum_users.specs.State.{RosterState, has_number, is_in, is_of_session, is_pair, joining}
-use Rattle.mum_users.specs.Targets.{targeted}
-use Rattle.mum_users.specs.declared.listening.ListenerPair.{ListenerPair}
-use Rattle.mum_users.specs.declared.target.Target.{Target}
-use Rattle.mum_users.specs.declared.user.User.{User}
-use Rattle.mum_state.specs.Applied.{applied}
-use Rattle.mum_state.specs.Emptied.{has_member}
-use Rattle.mum_state.specs.Fits.{fits}
-use Rattle.mum_state.specs.Followed.{left_by, with_left_closed}
-use Rattle.mum_state.specs.Kinds.{is_empty, sets_policy, sets_tokens_of}
-use Rattle.mum_state.specs.Named.{given}
-use Rattle.mum_state.specs.Parts.{user_parts}
-use Rattle.mum_state.specs.Proper.{IsProper}
-use Rattle.mum_state.specs.Set.{moved_up, set_by, with_tree}
-use Rattle.mum_state.specs.State.{StateValue}
-use Rattle.mum_state.specs.Suppression.{heard_anew, is_newcomer, is_set_anew, with_clearing, with_suppression}
-use Rattle.mum_state.specs.declared.edit.Edit.{Edit}
-use Rattle.mum_state.specs.declared.edit.Edit.TheVariants.{Join, Kick, Leave, MakeChannel, RemoveChannel, SetAcl, SetTarget, SetTokens, SetUser}
-use Rattle.mum_state.proofs.Clearing.{by_clearing}
-use Rattle.mum_state.proofs.Descent.{applied_descends}
-use Rattle.mum_state.proofs.Each.{Each, each_filter, each_insert, each_map, each_so, found_passes, some_found}
-use Rattle.mum_state.proofs.Emptying.{alone}
-use Rattle.mum_state.proofs.Gone.{there_without_subtree}
-use Rattle.mum_state.proofs.Keeping.{fit_proper}
-use Rattle.mum_state.proofs.Leftover.{left_alone}
-use Rattle.mum_state.proofs.Listed.{all_too, filter_all}
-use Rattle.mum_state.proofs.Renewing.{targeted_sessions}
-use Rattle.mum_state.proofs.Seats.{session_alone, session_known}
-use Rattle.mum_notify.specs.Gone.{channels_gone}
-use Rattle.mum_notify.specs.Notices.{closes}
-use Rattle.mum_notify.specs.Users.{gives_comment, watch_own, watched, whom_to_watch}
+-- A session that is not looked at stays, and a comment stays where none is given.
+use Rattle.mum_notify.proofs.Common.{◌≡◌, ℕ, suc, zero, ◌+◌, ◌<◌, ◌≤◌, ◌==◌, ◌&&◌, ◌||◌, Bool, true, false, not, cond, List, [], ◌∷◌, length, filter, find, get_or, Option, Some, None, refl, sym, ap, ◌∙◌, arith, subst, is_some, ⊤, Contains, list_any, and_from, both_ways, eq-eqb, eqb-true, false≢true, list_any_at, is_among, ChannelId, SessionId, parent_of, is_below, is_temporary, is_there, TreeState, without_subtree, changed_user, staying, with_channels, pair_below, pairs_of, free_slot, next_number, next_slot, session_of, RosterState, has_number, is_in, is_of_session, joining, targeted, ListenerPair, Target, User, applied, has_member, fits, left_by, with_left_closed, is_empty, sets_policy, sets_tokens_of, given, user_parts, IsProper, moved_up, set_by, with_tree, StateValue, heard_anew, is_newcomer, is_set_anew, with_clearing, with_suppression, Edit, Join, Kick, Leave, MakeChannel, RemoveChannel, SetAcl, SetTarget, SetTokens, SetUser, by_clearing, applied_descends, Each, each_filter, each_insert, each_map, each_so, found_passes, some_found, alone, there_without_subtree, fit_proper, left_alone, all_too, filter_all, targeted_sessions, session_alone, session_known, channels_gone, closes, gives_comment, watch_own, watched, whom_to_watch}
+use Rattle.mum_users.specs.{Listeners.with_pair, State.is_pair}
 use Rattle.mum_notify.proofs.Standing.{applied_tree, apart_sym, filter_within}
 
 -- ---- lists
@@ -224,7 +181,7 @@ set_listens state edit session apart = refl
 clearing_listeners : (edit : Edit) (state : StateValue) → (with_clearing edit state).roster.listeners ≡ state.roster.listeners
 clearing_listeners edit state = by_clearing (λ after. after.roster.listeners ≡ state.roster.listeners) edit state refl (λ session. refl)
 
--- where no channel is told gone, none goes
+-- where no channel is reported gone, none goes
 
 empty_is : {X : Type 0} (xs : List X) → not (is_empty xs) ≡ false → xs ≡ []
 empty_is [] none = refl

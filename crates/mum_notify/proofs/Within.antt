@@ -1,43 +1,5 @@
--- What is told of proper states is within the limit of a frame.
-use Rattle.std.proofs.Common.{◌≡◌, ℕ, ◌≤◌, ◌<◌, ◌&&◌, ◌||◌, ◌==◌, Bool, true, false, not, cond, List, [], ◌∷◌, length, map, filter, get_or, Option, Some, None, refl, sym, ap, ◌∙◌, arith, subst}
-use Rattle.std.specs.List.{count_by, find, list_all}
-use Rattle.std.specs.Option.{option_map}
-use Rattle.std.specs.Str.{bytes_eq}
-use Rattle.std.proofs.lemmas.Bool.{and_parts}
-use Rattle.std.proofs.lemmas.Bool.Decides.{nat_tests}
-use Rattle.std.proofs.lemmas.List.{length-map}
-use Rattle.std.proofs.lemmas.List.Sums.{length-filter}
-use Rattle.mum_base.specs.Channels.{is_among}
-use Rattle.mum_base.specs.declared.number.ChannelId.{ChannelId}
-use Rattle.mum_base.specs.declared.number.SessionId.{SessionId}
-use Rattle.mum_msg_rule.specs.declared.text_message.TextMessage.{TextMessage}
-use Rattle.mum_msg_state.specs.declared.channel_state.ChannelState.{ChannelState}
-use Rattle.mum_msg_state.specs.declared.server_sync.ServerSync.{ServerSync}
-use Rattle.mum_msg_state.specs.declared.user_remove.UserRemove.{UserRemove}
-use Rattle.mum_msg_state.specs.declared.user_state.UserState.{UserState}
-use Rattle.mum_msg_state.specs.declared.version.Version.{Version}
-use Rattle.mum_tree.specs.Rows.{row_of}
-use Rattle.mum_tree.specs.State.{Pair, TreeState, partners, starts_at}
-use Rattle.mum_tree.specs.declared.channel.Channel.{Channel}
-use Rattle.mum_tree.specs.declared.channel.Row.{Row}
-use Rattle.mum_users.specs.Listeners.{listens, pairs_of}
-use Rattle.mum_users.specs.Sessions.{session_of}
-use Rattle.mum_users.specs.State.{RosterState, are_tokens, has_number, is_context, is_of_session}
-use Rattle.mum_users.specs.declared.listening.ListenerPair.{ListenerPair}
-use Rattle.mum_users.specs.declared.user.User.{User}
-use Rattle.mum_state.specs.declared.edit.Edit.{Edit}
-use Rattle.mum_state.specs.declared.edit.Edit.TheVariants.{Kick, MakeChannel, Text}
-use Rattle.mum_state.proofs.Listed.{all_at}
-use Rattle.mum_state.specs.Kinds.{is_empty}
-use Rattle.mum_state.specs.Proper.{IsProper, is_name, is_short, is_sound_channel, is_sound_user, is_text}
-use Rattle.mum_state.specs.State.{StateValue}
-use Rattle.mum_notify.specs.Channels.{channel_change_told, channel_of, channel_told, links_told, new_channel, numbers, partners_only_in, said_unless}
-use Rattle.mum_notify.specs.Gone.{user_kicked, user_left}
-use Rattle.mum_notify.specs.Notices.{FitsFrame}
-use Rattle.mum_notify.specs.Parcels.{IsWithinFrame, channel_payload, sync_payload, text_payload, user_gone_payload, user_payload, version_payload}
-use Rattle.mum_notify.specs.Sync.{server_version, welcome_told}
-use Rattle.mum_notify.specs.Texts.{text_told}
-use Rattle.mum_notify.specs.Users.{gives_comment, listened, listened_only_in, user_change_told, user_told}
+-- What is reported of proper states is within the limit of a frame.
+use Rattle.mum_notify.proofs.Common.{◌≡◌, ℕ, ◌≤◌, ◌<◌, ◌&&◌, ◌||◌, ◌==◌, Bool, true, false, not, cond, List, [], ◌∷◌, length, map, filter, get_or, Option, Some, None, refl, sym, ap, ◌∙◌, arith, subst, count_by, find, list_all, option_map, bytes_eq, and_parts, nat_tests, length-map, length-filter, is_among, ChannelId, SessionId, TextMessage, ChannelState, ServerSync, UserRemove, UserState, Version, row_of, Pair, TreeState, partners, starts_at, Channel, Row, listens, pairs_of, session_of, RosterState, are_tokens, has_number, is_context, is_of_session, ListenerPair, User, Edit, Kick, MakeChannel, Text, all_at, is_empty, IsProper, is_name, is_short, is_sound_channel, is_sound_user, is_text, StateValue, channel_change_told, channel_of, channel_told, links_told, new_channel, numbers, partners_only_in, said_unless, user_kicked, user_left, FitsFrame, IsWithinFrame, channel_payload, sync_payload, text_payload, user_gone_payload, user_payload, version_payload, server_version, welcome_told, text_told, gives_comment, listened, listened_only_in, user_change_told, user_told}
 use Rattle.mum_notify.proofs.Bounds.{channel_within, given_length, sync_within, user_gone_within, user_within, version_within}
 
 -- ---- texts

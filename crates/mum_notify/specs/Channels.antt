@@ -1,22 +1,14 @@
--- What is told of channels that are new or changed.
+-- What is reported of channels that are new or changed.
 use Rattle.std.specs.Prelude.{ℕ, zero, suc, ◌==◌, ◌&&◌, ◌||◌, not, Bool, false, nat_lt, pos, List, [], ◌∷◌, ◌++◌, map, filter, fold, Option, Some, None, is_some, if◌then◌else◌}
-use Rattle.std.specs.List.{flat_map, position_or_len, slice_get}
-use Rattle.std.specs.Option.{option_map, option_map_or}
-use Rattle.std.specs.Ordering.{int_eq}
-use Rattle.std.specs.Str.{bytes_eq}
+use Rattle.std.specs.{List.flat_map, List.position_or_len, List.slice_get, Option.option_map, Option.option_map_or}
+use Rattle.std.specs.{Ordering.int_eq, Str.bytes_eq}
 use Rattle.mum_base.specs.Channels.{is_among}
 use Rattle.mum_base.specs.declared.number.ChannelId.{ChannelId}
-use Rattle.mum_msg_state.specs.declared.channel_state.ChannelState.{ChannelState}
-use Rattle.mum_tree.specs.Refusals.{parent_of}
-use Rattle.mum_tree.specs.Rows.{is_root, row_of}
-use Rattle.mum_tree.specs.State.{TreeState, partners}
+use Rattle.mum_tree.specs.{Refusals.parent_of, Rows.is_root, Rows.row_of, State.TreeState, State.partners}
 use Rattle.mum_tree.specs.declared.channel.Channel.{Channel}
-use Rattle.mum_state.specs.declared.edit.Edit.{Edit}
-use Rattle.mum_state.specs.declared.edit.Edit.TheVariants.{MakeChannel}
-use Rattle.mum_state.specs.Kinds.{is_empty}
-use Rattle.mum_state.specs.Named.{given}
-use Rattle.mum_state.specs.Parts.{channel_edit}
-use Rattle.mum_state.specs.State.{StateValue}
+use Rattle.mum_msg_state.specs.declared.channel_state.ChannelState.{ChannelState}
+use Rattle.mum_state.specs.declared.edit.Edit.{Edit, TheVariants.MakeChannel}
+use Rattle.mum_state.specs.{Kinds.is_empty, Named.given, Parts.channel_edit, State.StateValue}
 
 abbrev pub channel_of : TreeState → ChannelId → Option Channel
 channel_of tree id = option_map (λ row. row.channel) (row_of tree.channels id)
@@ -80,17 +72,20 @@ channel_change_told before after was now = record {
 -- the message names something beside the channel
 abbrev pub tells_of_channel : ChannelState → Bool
 tells_of_channel message =
-    is_some message.parent || is_some message.name || is_some message.description || is_some message.position || is_some message.max_users
+    is_some message.parent || is_some message.name || is_some message.description || is_some message.position
+    || is_some message.max_users
     || not (is_empty message.links_add) || not (is_empty message.links_remove)
 
--- the message, if it tells something
+-- the message, if it reports something
 abbrev pub if_it_tells : {M : Type 0} → (M → Bool) → M → List M
 if_it_tells tells message = if tells message then message ∷ [] else []
 
 -- what of the channel is another, where it is in both trees
 abbrev pub channel_difference : TreeState → TreeState → ChannelId → List ChannelState
 channel_difference before after id =
-    option_map_or (λ was. option_map_or (λ now. if_it_tells tells_of_channel (channel_change_told before after was now)) (channel_of after id) [])
+    option_map_or
+    (λ was. option_map_or (λ now. if_it_tells tells_of_channel (channel_change_told before after was now))
+    (channel_of after id) [])
     (channel_of before id) []
 
 -- a channel at its place among channels in order of number, once
@@ -105,7 +100,7 @@ with_channel new (id ∷ ids) =
 abbrev pub is_lower : ChannelId → ChannelId → Bool
 is_lower one other = nat_lt one.0 other.0
 
--- how many of these are lower, from the first on; and whether the channel stands there
+-- how many of these are lower, from the first on; and whether the channel is there
 abbrev pub place_for : ChannelId → List ChannelId → ℕ
 place_for id ids = position_or_len (λ one. not (nat_lt one.0 id.0)) ids
 
@@ -119,7 +114,8 @@ in_order ids = fold (λ ordered id. with_channel id ordered) [] ids
 -- the channels that an edit can make others: the one that it edits, and those that it links to it or parts from it
 abbrev pub edited_channels : Edit → List ChannelId
 edited_channels edit =
-    option_map_or (λ channel. in_order (channel.channel ∷ channel.change.links_add ++ channel.change.links_remove)) (channel_edit edit) []
+    option_map_or (λ channel. in_order (channel.channel ∷ channel.change.links_add ++ channel.change.links_remove))
+    (channel_edit edit) []
 
 abbrev pub channel_changes_told : StateValue → Edit → StateValue → List ChannelState
 channel_changes_told before edit after = flat_map (channel_difference before.tree after.tree) (edited_channels edit)

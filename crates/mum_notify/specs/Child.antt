@@ -1,9 +1,7 @@
 -- The channels by their parents.
 use Rattle.std.specs.Prelude.{◌==◌, not, nat_le, Bool, List, filter, map}
 use Rattle.mum_base.specs.declared.number.ChannelId.{ChannelId}
-use Rattle.mum_tree.specs.Refusals.{parent_of}
-use Rattle.mum_tree.specs.Rows.{is_root}
-use Rattle.mum_tree.specs.State.{TreeState}
+use Rattle.mum_tree.specs.{Refusals.parent_of, Rows.is_root, State.TreeState}
 use Rattle.mum_notify.specs.declared.children.Child.{Child}
 
 abbrev pub child_of : TreeState → ChannelId → Child

@@ -1,22 +1,20 @@
 -- Messages as bytes on the wire, and the parcels that bring them.
 use Rattle.std.specs.Prelude.{ℕ, ◌≤◌, false, List, length, map}
 use Rattle.std.specs.List.{flat_map}
-use Rattle.mum_fields.specs.Table.{spelled}
 use Rattle.mum_frame.specs.Frame.{spelling_of}
 use Rattle.mum_frame.specs.declared.frame.TheConstants.{PAYLOAD_LIMIT}
 use Rattle.mum_frame.specs.declared.kind.TheConstants.{CHANNEL_REMOVE, CHANNEL_STATE, CODEC_VERSION, PERMISSION_QUERY, SERVER_SYNC, TEXT_MESSAGE, USER_REMOVE, USER_STATE, VERSION}
-use Rattle.mum_msg_rule.specs.Messages.{permission_query, text_message}
-use Rattle.mum_msg_rule.specs.declared.permission_query.PermissionQuery.{PermissionQuery}
-use Rattle.mum_msg_rule.specs.declared.text_message.TextMessage.{TextMessage}
+use Rattle.mum_fields.specs.Table.{spelled}
+use Rattle.mum_users.specs.declared.user.User.{User}
 use Rattle.mum_msg_state.specs.Messages.{channel_remove, channel_state, codec_version, server_sync, user_remove, user_state, version}
 use Rattle.mum_msg_state.specs.declared.channel_remove.ChannelRemove.{ChannelRemove}
 use Rattle.mum_msg_state.specs.declared.channel_state.ChannelState.{ChannelState}
-use Rattle.mum_msg_state.specs.declared.codec_version.CodecVersion.{CodecVersion}
-use Rattle.mum_msg_state.specs.declared.server_sync.ServerSync.{ServerSync}
-use Rattle.mum_msg_state.specs.declared.user_remove.UserRemove.{UserRemove}
-use Rattle.mum_msg_state.specs.declared.user_state.UserState.{UserState}
+use Rattle.mum_msg_state.specs.declared.{codec_version.CodecVersion.CodecVersion, server_sync.ServerSync.ServerSync}
+use Rattle.mum_msg_state.specs.declared.{user_remove.UserRemove.UserRemove, user_state.UserState.UserState}
 use Rattle.mum_msg_state.specs.declared.version.Version.{Version}
-use Rattle.mum_users.specs.declared.user.User.{User}
+use Rattle.mum_msg_rule.specs.Messages.{permission_query, text_message}
+use Rattle.mum_msg_rule.specs.declared.permission_query.PermissionQuery.{PermissionQuery}
+use Rattle.mum_msg_rule.specs.declared.text_message.TextMessage.{TextMessage}
 use Rattle.mum_notify.specs.declared.notice.Notice.{Notice}
 
 -- ---- messages as payloads, and each as a frame of its type

@@ -1,26 +1,20 @@
--- What a session that joins is told first.
+-- What a session that joins is sent first.
 use Rattle.std.specs.Prelude.{ℕ, pos, true, List, [], ◌∷◌, ◌++◌, map, codes, Some, None}
 use Rattle.std.specs.List.{flat_map}
-use Rattle.mum_base.specs.declared.number.ChannelId.{ChannelId}
-use Rattle.mum_base.specs.declared.number.SessionId.{SessionId}
-use Rattle.mum_base.specs.declared.number.TheConstants.ChannelId.{ROOT}
-use Rattle.mum_msg_state.specs.declared.channel_state.ChannelState.{ChannelState}
-use Rattle.mum_msg_state.specs.declared.codec_version.CodecVersion.{CodecVersion}
-use Rattle.mum_msg_state.specs.declared.server_sync.ServerSync.{ServerSync}
-use Rattle.mum_msg_state.specs.declared.version.Version.{Version}
+use Rattle.mum_base.specs.declared.number.{ChannelId.ChannelId, SessionId.SessionId, TheConstants.ChannelId.ROOT}
 use Rattle.mum_tree.specs.State.{TreeState}
 use Rattle.mum_tree.specs.declared.channel.TheConstants.{PATH_LIMIT}
 use Rattle.mum_users.specs.Sessions.{session_of}
 use Rattle.mum_users.specs.declared.user.User.{User}
-use Rattle.mum_state.specs.Kinds.{is_empty}
-use Rattle.mum_state.specs.Named.{given}
-use Rattle.mum_state.specs.Permissions.{actor_from, granted_to}
+use Rattle.mum_msg_state.specs.declared.channel_state.ChannelState.{ChannelState}
+use Rattle.mum_msg_state.specs.declared.{codec_version.CodecVersion.CodecVersion, server_sync.ServerSync.ServerSync}
+use Rattle.mum_msg_state.specs.declared.version.Version.{Version}
+use Rattle.mum_state.specs.{Kinds.is_empty, Named.given, Permissions.actor_from, Permissions.granted_to}
 use Rattle.mum_state.specs.State.{StateValue}
 use Rattle.mum_notify.specs.Channels.{channel_ids, channel_of, channel_told, children, family, has_links, if_it_tells, links_told, said_unless}
 use Rattle.mum_notify.specs.Parcels.{channel_frame, codecs_frame, parcel, sync_frame, user_frame, version_frame}
 use Rattle.mum_notify.specs.Users.{user_told}
-use Rattle.mum_notify.specs.declared.notice.Notice.{Notice}
-use Rattle.mum_notify.specs.declared.sync.TheConstants.{PROTOCOL}
+use Rattle.mum_notify.specs.declared.{notice.Notice.Notice, sync.TheConstants.PROTOCOL}
 
 abbrev pub server_version : Version
 server_version = record { version = Some PROTOCOL; release = Some (codes "murmur"); os = None; os_version = None }

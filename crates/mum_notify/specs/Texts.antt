@@ -1,25 +1,19 @@
--- Texts and whom they reach; and what a session is told of its permissions.
+-- Texts and whom they reach; and what a session is sent of its permissions.
 use Rattle.std.specs.Prelude.{ℕ, ◌==◌, ◌&&◌, ◌||◌, not, Bool, true, false, List, [], map, filter, Some}
-use Rattle.std.specs.List.{list_any}
-use Rattle.std.specs.Option.{option_map_or}
+use Rattle.std.specs.{List.list_any, Option.option_map_or}
 use Rattle.mum_base.specs.Channels.{is_among}
-use Rattle.mum_base.specs.declared.number.ChannelId.{ChannelId}
-use Rattle.mum_base.specs.declared.number.SessionId.{SessionId}
+use Rattle.mum_base.specs.declared.number.{ChannelId.ChannelId, SessionId.SessionId}
 use Rattle.mum_base.specs.declared.perm.TheConstants.Perm.{TEXT_MESSAGE}
-use Rattle.mum_msg_rule.specs.declared.permission_query.PermissionQuery.{PermissionQuery}
-use Rattle.mum_msg_rule.specs.declared.text_message.TextMessage.{TextMessage}
 use Rattle.mum_policy.specs.Walk.{holds}
 use Rattle.mum_tree.specs.Rows.{is_below, path}
 use Rattle.mum_users.specs.declared.user.User.{User}
-use Rattle.mum_state.specs.declared.edit.Edit.{Edit}
-use Rattle.mum_state.specs.declared.edit.Edit.TheVariants.{SetAcl, Text}
-use Rattle.mum_state.specs.Permissions.{actor_from, granted_to, perm_of}
-use Rattle.mum_state.specs.State.{StateValue}
-use Rattle.mum_notify.specs.Channels.{numbers}
+use Rattle.mum_msg_rule.specs.declared.permission_query.PermissionQuery.{PermissionQuery}
+use Rattle.mum_msg_rule.specs.declared.text_message.TextMessage.{TextMessage}
+use Rattle.mum_state.specs.declared.edit.Edit.{Edit, TheVariants.SetAcl, TheVariants.Text}
+use Rattle.mum_state.specs.{Permissions.actor_from, Permissions.granted_to, Permissions.perm_of, State.StateValue}
+use Rattle.mum_notify.specs.{Channels.numbers, Sorted.ListAlike, Sorted.lists}
 use Rattle.mum_notify.specs.Parcels.{parcel, permissions_frame, text_frame, to_each}
-use Rattle.mum_notify.specs.Sorted.{ListAlike, lists}
-use Rattle.mum_notify.specs.declared.notice.Notice.{Notice}
-use Rattle.mum_notify.specs.declared.texts.Named.{Named}
+use Rattle.mum_notify.specs.declared.{notice.Notice.Notice, texts.Named.Named}
 
 -- ---- texts
 
@@ -69,7 +63,8 @@ text_told actor sessions channels trees message = record {
 
 abbrev pub text_parcels : StateValue → Edit → List Notice
 text_parcels after (Text actor sessions channels trees message) =
-    to_each (filter (is_for after actor sessions channels trees) after.roster.sessions) (text_frame (text_told actor sessions channels trees message))
+    to_each (filter (is_for after actor sessions channels trees) after.roster.sessions)
+    (text_frame (text_told actor sessions channels trees message))
 text_parcels after edit = []
 
 -- ---- permissions

@@ -1,23 +1,15 @@
--- What is told of sessions that are new or changed.
+-- What is reported of sessions that are new or changed.
 use Rattle.std.specs.Prelude.{ℕ, ◌==◌, ◌||◌, not, Bool, true, false, List, [], map, filter, Option, Some, None, is_some, if◌then◌else◌}
-use Rattle.std.specs.List.{flat_map}
-use Rattle.std.specs.Option.{option_map, option_map_or}
-use Rattle.std.specs.Str.{bytes_eq}
+use Rattle.std.specs.{List.flat_map, Option.option_map, Option.option_map_or, Str.bytes_eq}
 use Rattle.mum_base.specs.declared.number.SessionId.{SessionId}
-use Rattle.mum_msg_state.specs.declared.user_state.UserState.{UserState}
-use Rattle.mum_users.specs.Listeners.{listens, pairs_of}
-use Rattle.mum_users.specs.Sessions.{session_of}
-use Rattle.mum_users.specs.State.{RosterState}
+use Rattle.mum_users.specs.{Listeners.listens, Listeners.pairs_of, Sessions.session_of, State.RosterState}
 use Rattle.mum_users.specs.declared.user.User.{User}
+use Rattle.mum_msg_state.specs.declared.user_state.UserState.{UserState}
 use Rattle.mum_state.specs.declared.edit.Edit.{Edit}
 use Rattle.mum_state.specs.declared.edit.Edit.TheVariants.{Kick, MakeChannel, RemoveChannel, SetAcl, SetTokens}
-use Rattle.mum_state.specs.Kinds.{is_empty}
-use Rattle.mum_state.specs.Named.{given}
-use Rattle.mum_state.specs.Parts.{session_edit}
-use Rattle.mum_state.specs.State.{StateValue}
+use Rattle.mum_state.specs.{Kinds.is_empty, Named.given, Parts.session_edit, State.StateValue}
 use Rattle.mum_notify.specs.Channels.{if_it_tells, said_unless}
-use Rattle.mum_notify.specs.declared.watch.Watch.{Watch}
-use Rattle.mum_notify.specs.declared.watch.Watch.TheVariants.{Nobody, One, Everybody}
+use Rattle.mum_notify.specs.declared.watch.Watch.{Watch, TheVariants.Nobody, TheVariants.One, TheVariants.Everybody}
 
 -- ---- a session as a whole
 
@@ -108,7 +100,8 @@ tells_of_user message =
 -- what of a session is another, where it was there before
 abbrev pub user_difference : StateValue → Edit → StateValue → User → List UserState
 user_difference before edit after now =
-    option_map_or (λ was. if_it_tells tells_of_user (user_change_told before.roster edit after.roster was now)) (session_of before.roster now.session) []
+    option_map_or (λ was. if_it_tells tells_of_user (user_change_told before.roster edit after.roster was now))
+    (session_of before.roster now.session) []
 
 -- ---- whom an edit can make another
 
@@ -136,4 +129,5 @@ watched Everybody roster = roster.sessions
 
 -- `closes` says that the edit takes a channel away
 abbrev pub user_changes_told : StateValue → Edit → StateValue → Bool → List UserState
-user_changes_told before edit after closes = flat_map (user_difference before edit after) (watched (whom_to_watch edit closes) after.roster)
+user_changes_told before edit after closes =
+    flat_map (user_difference before edit after) (watched (whom_to_watch edit closes) after.roster)

@@ -13,7 +13,7 @@ use mum_state::{Edit, State};
 use std::alloc::Global;
 use std::mem::drop;
 
-/// Puts the notices that report an edit behind those that are pending, and gives their number.
+// Puts the notices that report an edit after those that are pending, and gives their number.
 fn put_notices(
     alloc: Global,
     pending: &mut NoticeQueue,
@@ -31,8 +31,8 @@ fn put_notices(
     Ok(made.as_slice().len())
 }
 
-/// The state to which an edit leads, once the notices that report it are behind those that are pending, and
-/// how many these are.
+// The state to which an edit leads, once the notices that report it are after those that are pending, and
+// how many these are.
 fn report_edit<L: EditList>(
     alloc: Global,
     list: &mut L,
@@ -42,9 +42,12 @@ fn report_edit<L: EditList>(
     requires fits { IsTrue (fits (L.latest list.old) edit.now) }
     requires frame { FitsFrame edit.now }
     ensures next { IfOk result (λ reported. reported.0 ≡ applied (L.latest list.old) edit.now) }
-    ensures count { IfOk result (λ reported. reported.1 ≡ length (notices (L.latest list.old) edit.now (applied (L.latest list.old) edit.now))) }
+    ensures count { IfOk result
+        (λ reported. reported.1
+        ≡ length (notices (L.latest list.old) edit.now (applied (L.latest list.old) edit.now))) }
     ensures same { list.new ≡ list.old }
-    ensures put { OnOk result (pending.new ≡ pending.old ++ notices (L.latest list.old) edit.now (applied (L.latest list.old) edit.now)) }
+    ensures put { OnOk result
+        (pending.new ≡ pending.old ++ notices (L.latest list.old) edit.now (applied (L.latest list.old) edit.now)) }
     ensures err { OnErr result (pending.new ≡ pending.old) }
 {
     let next = list.next_state(edit)?;
@@ -57,8 +60,8 @@ fn report_edit<L: EditList>(
     }
 }
 
-/// Appends an edit that leads to this state. As many of the pending notices report it, and go where memory
-/// runs out.
+// Appends an edit that leads to this state. As many of the pending notices report it, and go where memory
+// runs out.
 fn append_reported<L: EditList>(
     list: &mut L,
     pending: &mut NoticeQueue,
@@ -93,7 +96,8 @@ pub fn accept_edit<L: EditList>(
     requires fits { IsTrue (fits (L.latest list.old) edit) }
     requires frame { FitsFrame edit }
     ensures ok { OnOk result (L.appends list.old edit list.new) }
-    ensures put { OnOk result (pending.new ≡ pending.old ++ notices (L.latest list.old) edit (applied (L.latest list.old) edit)) }
+    ensures put { OnOk result
+        (pending.new ≡ pending.old ++ notices (L.latest list.old) edit (applied (L.latest list.old) edit)) }
     ensures err { OnErr result (list.new ≡ list.old) }
     ensures none_put { OnErr result (pending.new ≡ pending.old) }
 {

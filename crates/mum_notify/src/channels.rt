@@ -1,4 +1,4 @@
-//! What is told of channels that are new or changed.
+//! What is reported of channels that are new or changed.
 
 ghost use Rattle.std.specs.Prelude.{◌≡◌, ◌++◌, ◌==◌, ◌≤◌, IfOk, OnOk, filter, fold, length, map, not, pos};
 ghost use Rattle.std.specs.Ordering.{int_eq};
@@ -31,7 +31,7 @@ pub(crate) fn numbers(alloc: Global, ids: &[ChannelId]) -> Result<Items<u32>, Ou
     Ok(Items::from_vec(listed))
 }
 
-/// A text, unless it is empty.
+// A text, unless it is empty.
 pub(crate) fn text_unless_empty(text: &Text) -> Result<Option<Text>, OutOfMemory>
     ensures { IfOk result (λ said. said ≡ said_unless (is_empty text.now) text.now) }
 {
@@ -42,7 +42,7 @@ pub(crate) fn text_unless_empty(text: &Text) -> Result<Option<Text>, OutOfMemory
     }
 }
 
-/// A text, unless it is the one that was.
+// A text, unless it is the one that was.
 pub(crate) fn text_unless_same(was: &Text, now: &Text) -> Result<Option<Text>, OutOfMemory>
     ensures { IfOk result (λ said. said ≡ said_unless (bytes_eq was.now now.now) now.now) }
 {
@@ -53,7 +53,7 @@ pub(crate) fn text_unless_same(was: &Text, now: &Text) -> Result<Option<Text>, O
     }
 }
 
-/// A number, unless it is the one that need not be said.
+// A number, unless it is the one that need not be said.
 pub(crate) fn number_unless(unsaid: u32, number: u32) -> Option<u32>
     ensures { result ≡ said_unless (unsaid == number) number }
 {
@@ -93,7 +93,7 @@ fn parent_told(channel: &Channel) -> Option<u32>
     }
 }
 
-/// All that is not as it is by default.
+// All that is not as it is by default.
 pub(crate) fn channel_told(alloc: Global, channel: &Channel) -> Result<ChannelState, OutOfMemory>
     ensures { IfOk result (λ told. told ≡ channel_told channel.now) }
 {
@@ -111,7 +111,7 @@ pub(crate) fn channel_told(alloc: Global, channel: &Channel) -> Result<ChannelSt
     })
 }
 
-/// The frame that tells all of a channel.
+// The frame that reports all of a channel.
 pub(crate) fn frame_of_channel(alloc: Global, channel: &Channel) -> Result<Octets, OutOfMemory>
     requires { IsWithinFrame (channel_payload (channel_told channel.now)) }
     ensures { IfOk result (λ frame. frame ≡ channel_frame (channel_told channel.now)) }
@@ -130,7 +130,7 @@ fn new_channel<'a>(after: &'a Tree, edit: &Edit) -> Option<&'a Channel>
     }
 }
 
-/// The frames that tell of the channel that the edit makes.
+// The frames that report the channel that the edit makes.
 pub(crate) fn new_channel_frames(
     alloc: Global,
     after: &State,
@@ -148,7 +148,7 @@ pub(crate) fn new_channel_frames(
     Ok(frames)
 }
 
-/// The channels linked to one, in order of number.
+// The channels linked to one, in order of number.
 pub(crate) fn partners(
     alloc: Global,
     tree: &Tree,
@@ -234,7 +234,7 @@ fn tells_of_channel(message: &ChannelState) -> bool
         || !message.links_remove.as_slice().is_empty()
 }
 
-// One frame more, where the message tells something.
+// One frame more, where the message reports something.
 fn push_difference(
     alloc: Global,
     frames: &mut Vec<Octets>,
@@ -355,7 +355,7 @@ fn differences(
     Ok(frames)
 }
 
-/// The frames that tell of channels that the edit made others.
+// The frames that report channels that the edit made others.
 pub(crate) fn channel_change_frames(
     alloc: Global,
     before: &State,

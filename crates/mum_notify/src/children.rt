@@ -1,4 +1,4 @@
-//! The channels of a tree, each with all that is below it behind it.
+//! The channels of a tree, each with all that is below it after it.
 
 ghost use Rattle.std.specs.Prelude.{◌≡◌, ◌++◌, ◌≤◌, IfOk, OnOk, filter, length, nat_lt, not, position};
 ghost use Rattle.std.specs.List.{position_or_len};
@@ -12,14 +12,14 @@ use mum_base::{ChannelId, OutOfMemory};
 use mum_tree::{PATH_LIMIT, Tree};
 use std::alloc::Global;
 
-/// A channel under another.
+// A channel under another.
 #[derive(Clone, Copy)]
 pub(crate) struct Child {
     pub(crate) parent: ChannelId,
     pub(crate) id: ChannelId,
 }
 
-/// The channels, in order of number.
+// The channels, in order of number.
 pub(crate) fn channel_ids(alloc: Global, tree: &Tree) -> Result<Vec<ChannelId>, OutOfMemory>
     ensures { IfOk result (λ ids. ids.items ≡ channel_ids tree.now) }
 {
@@ -119,7 +119,7 @@ fn add_family(
     Ok(())
 }
 
-/// A channel before its children, and these by their numbers.
+// A channel before its children, and these by their numbers.
 pub(crate) fn tree_order(alloc: Global, tree: &Tree) -> Result<Vec<ChannelId>, OutOfMemory>
     ensures { IfOk result (λ ids. ids.items ≡ tree_order tree.now) }
 {

@@ -1,7 +1,7 @@
 //! Messages as frames. Whoever makes one whose texts or lists may be long shows that it is within the
 //! limit of a frame.
 
-ghost use Rattle.std.specs.Prelude.{◌≡◌, ◌↔◌, IfOk, IsTrue};
+ghost use Rattle.std.specs.Prelude.{◌≡◌, IfOk};
 ghost use Rattle.mum_fields.specs.Table.{spelled};
 ghost use Rattle.mum_frame.specs.Frame.{spelling_of};
 ghost use Rattle.mum_notify.specs.Parcels.{IsWithinFrame, channel_frame, channel_gone_frame, channel_payload, codecs_frame, permissions_frame, sync_frame, sync_payload, text_frame, text_payload, user_frame, user_gone_frame, user_gone_payload, user_payload, version_frame, version_payload};
@@ -12,7 +12,7 @@ use mum_frame::kind::{
     CHANNEL_REMOVE, CHANNEL_STATE, CODEC_VERSION, PERMISSION_QUERY, SERVER_SYNC, TEXT_MESSAGE,
     USER_REMOVE, USER_STATE, VERSION,
 };
-use mum_frame::{PAYLOAD_LIMIT, put_frame};
+use mum_frame::put_frame;
 use mum_msg_rule::{PermissionQuery, TextMessage};
 use mum_msg_state::{
     ChannelRemove, ChannelState, CodecVersion, ServerSync, UserRemove, UserState, Version,
@@ -26,13 +26,6 @@ fn frame_of<M: Message>(alloc: Global, kind: u16, message: &M) -> Result<Octets,
     let payload = message.encode(alloc)?;
     let frame = put_frame(alloc, kind, payload.as_slice())?;
     frame.into_shared()
-}
-
-/// Whether one frame takes the message.
-pub(crate) fn is_within<M: Message>(message: &M) -> bool
-    ensures { IsTrue result ↔ IsWithinFrame (spelled M.rows message.now) }
-{
-    message.length() <= PAYLOAD_LIMIT as u64
 }
 
 pub(crate) fn version_frame(alloc: Global, message: &Version) -> Result<Octets, OutOfMemory>

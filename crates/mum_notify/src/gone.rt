@@ -1,4 +1,4 @@
-//! What is told of channels and sessions that go.
+//! What is reported of channels and sessions that go.
 
 ghost use Rattle.std.specs.Prelude.{◌≡◌, [], ◌∷◌, ◌++◌, IfOk, OnOk, filter, map};
 ghost use Rattle.mum_state.specs.Followed.{left_by, temporary_around};
@@ -63,14 +63,14 @@ fn is_temporary(tree: &Tree, id: ChannelId) -> bool
     }
 }
 
-// The channel is gone, and is told: the topmost, and each temporary one.
+// The channel is gone, and is reported: the topmost, and each temporary one.
 fn is_told_gone(top: ChannelId, before: &Tree, after: &Tree, id: ChannelId) -> bool
     ensures { result ≡ is_told_gone top before.now after.now id }
 {
     (id.0 == top.0 || is_temporary(before, id)) && !after.is_there(id)
 }
 
-// Of these channels those that are gone and are told.
+// Of these channels those that are gone and are reported.
 fn told_gone(
     alloc: Global,
     ids: &[ChannelId],
@@ -90,7 +90,7 @@ fn told_gone(
     Ok(gone)
 }
 
-// The channels whose going is told where one is removed with all below it, in order of number.
+// The channels whose going is reported where one is removed with all below it, in order of number.
 fn removed_channels(
     alloc: Global,
     before: &Tree,
@@ -104,7 +104,7 @@ fn removed_channels(
     told_gone(alloc, ids.as_slice(), before, after, top)
 }
 
-/// The channels whose going is told, in order of number.
+// The channels whose going is reported, in order of number.
 pub(crate) fn channels_gone(
     alloc: Global,
     before: &State,
@@ -138,7 +138,7 @@ fn tell_gone(alloc: Global, frames: &mut Vec<Octets>, id: ChannelId) -> Result<(
     Ok(())
 }
 
-/// The frames that tell of channels that went.
+// The frames that report channels that went.
 pub(crate) fn channel_gone_frames(
     alloc: Global,
     gone: &[ChannelId],
@@ -205,7 +205,7 @@ fn tell_last(
     Ok(())
 }
 
-// One that is put out is told to all that were there, and gets nothing more itself.
+// One that is kicked is reported to all that were there, and gets nothing more itself.
 fn tell_of_kick(
     list: &mut Vec<Notice>,
     users: &[User],
@@ -221,7 +221,7 @@ fn tell_of_kick(
     Ok(())
 }
 
-// One that leaves is told to those that are left.
+// One that leaves is reported to those that are left.
 fn tell_of_leave(
     alloc: Global,
     list: &mut Vec<Notice>,
@@ -236,7 +236,7 @@ fn tell_of_leave(
     tell_each(list, users, &frame)
 }
 
-/// Tells who went.
+// Reports who went.
 pub(crate) fn tell_of_departure(
     alloc: Global,
     list: &mut Vec<Notice>,

@@ -1,9 +1,9 @@
-//! What holds of all that is told, as theorems. The functions do nothing: their contracts are what they
+//! What holds of all that is sent, as theorems. The functions do nothing: their contracts are what they
 //! say.
 
 ghost use Rattle.mum_notify.specs.Laws.{CommentsStand, EachHasItsSession, EachIsOneFrame, FirstIsFrames, GoesBySlots, GoneAreTold, LastOnlyForKicked, OtherChannelsStand, OtherSessionsStand, ParentsComeFirst, SenderIsToldNothing};
 
-/// Each parcel goes to a session that is there after the edit or, where one is put out, was there
+/// Each parcel goes to a session that is there after the edit or, where one is kicked, was there
 /// before, in the slot of that session.
 pub fn each_has_its_session()
     ensures { EachHasItsSession }
@@ -14,12 +14,12 @@ pub fn goes_by_slots()
     ensures { GoesBySlots }
 {}
 
-/// A parcel is the last only for a session that is put out.
+/// A parcel is the last only for a session that is kicked.
 pub fn last_only_for_kicked()
     ensures { LastOnlyForKicked }
 {}
 
-/// Whoever sends a text is told nothing of it.
+/// Whoever sends a text is sent nothing of it.
 pub fn sender_is_told_nothing()
     ensures { SenderIsToldNothing }
 {}
@@ -40,12 +40,12 @@ pub fn comments_stand()
     ensures { CommentsStand }
 {}
 
-/// No temporary channel goes that is not told of.
+/// No temporary channel goes that is not reported.
 pub fn gone_are_told()
     ensures { GoneAreTold }
 {}
 
-/// Where a session joins, it is told of each channel after its parent.
+/// Where a session joins, it is sent each channel after its parent.
 pub fn parents_come_first()
     ensures { ParentsComeFirst }
 {}

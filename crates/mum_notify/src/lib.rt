@@ -1,4 +1,4 @@
-//! What sessions are told: of each edit, and all that there is where one joins. Each parcel is one frame
+//! What sessions are sent: of each edit, and all that there is where one joins. Each parcel is one frame
 //! for one session, and the order of the parcels is that in which they go out. A contract sees them as a
 //! list, by the definitions in `specs/Notices.antt` and `specs/Sync.antt`.
 #![tactic(auto)]
@@ -6,7 +6,6 @@
 mod accepting;
 mod channels;
 mod children;
-mod fitting;
 mod frames;
 mod gone;
 pub mod laws;
@@ -21,7 +20,6 @@ mod waiting;
 mod watch;
 
 pub use accepting::accept_edit;
-pub use fitting::fits_frame;
 pub use notice::{Notice, Notices};
 pub use sync::{PROTOCOL, protocol, sync_block};
 pub use telling::notices;

@@ -10,7 +10,7 @@ pub struct Notice {
     pub slot: Slot,
     /// The whole frame, header and payload.
     pub bytes: Octets,
-    /// The session is put out, and gets nothing after this.
+    /// The session is kicked, and gets nothing after this.
     pub last: bool,
 }
 

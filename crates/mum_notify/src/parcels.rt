@@ -7,7 +7,7 @@ use crate::notice::Notice;
 use mum_base::{Octets, OutOfMemory};
 use mum_users::User;
 
-/// A frame for a session.
+// A frame for a session.
 pub(crate) fn parcel(bytes: Octets, user: &User) -> Notice
     ensures { result ≡ parcel bytes user.now }
 {
@@ -19,7 +19,7 @@ pub(crate) fn parcel(bytes: Octets, user: &User) -> Notice
     }
 }
 
-/// One parcel more, of a frame that others may have too.
+// One parcel more, of a frame that others may have too.
 pub(crate) fn tell_one(
     list: &mut Vec<Notice>,
     user: &User,
@@ -31,7 +31,7 @@ pub(crate) fn tell_one(
     Ok(())
 }
 
-/// One frame for each of these sessions.
+// One frame for each of these sessions.
 pub(crate) fn tell_each(
     list: &mut Vec<Notice>,
     users: &[User],
@@ -45,7 +45,7 @@ pub(crate) fn tell_each(
     Ok(())
 }
 
-/// Each frame for each of these sessions, one frame after the other.
+// Each frame for each of these sessions, one frame after the other.
 pub(crate) fn tell_all(
     list: &mut Vec<Notice>,
     users: &[User],

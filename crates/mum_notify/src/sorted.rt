@@ -8,7 +8,7 @@ ghost use Rattle.mum_notify.specs.Sorted.{ListAlike, lists};
 use mum_base::OutOfMemory;
 use std::alloc::Global;
 
-/// Numbers in rising order, so that each is found by binary search.
+// Numbers in rising order, so that each is found by binary search.
 #[derive(Drop)]
 pub(crate) struct Sorted {
     numbers: Vec<u32>,
@@ -16,7 +16,7 @@ pub(crate) struct Sorted {
 }
 
 impl Sorted {
-    /// These numbers, in rising order.
+    // These numbers, in rising order.
     pub(crate) fn of(alloc: Global, numbers: &[u32]) -> Result<Sorted, OutOfMemory>
         ensures { IfOk result (λ sorted. ListAlike sorted.numbers.items numbers.now) }
     {
@@ -25,7 +25,7 @@ impl Sorted {
         Ok(Sorted { numbers: sorted })
     }
 
-    /// Whether the number is one of these.
+    // Whether the number is one of these.
     pub(crate) fn has(&self, number: u32) -> bool
         ensures { result ≡ lists self.now.numbers.items number }
     {

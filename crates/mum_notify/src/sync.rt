@@ -1,4 +1,4 @@
-//! What a session that joins is told first.
+//! What a session that joins is sent first.
 
 ghost use Rattle.std.specs.Prelude.{◌≡◌, [], ◌∷◌, ◌++◌, IfOk, IsTrue, OnOk, map};
 ghost use Rattle.std.specs.List.{flat_map, list_all};
@@ -254,8 +254,8 @@ fn send_all(list: &mut Vec<Notice>, user: &User, frames: &[Octets]) -> Result<()
     Ok(())
 }
 
-/// Tells a session all that there is: the server's version and codecs, the channels, each after its
-/// parent, their links, the sessions, and at last what is its own.
+// Sends a session all that there is: the server's version and codecs, the channels, each after its
+// parent, their links, the sessions, and at last what is its own.
 pub(crate) fn tell_state(
     alloc: Global,
     list: &mut Vec<Notice>,
@@ -268,7 +268,7 @@ pub(crate) fn tell_state(
     send_all(list, user, frames.as_slice())
 }
 
-/// What a session is told first, as the parcels of one that joins. A session that is not there is told
+/// What a session is sent first, as the parcels of one that joins. A session that is not there is sent
 /// nothing.
 pub fn sync_block(alloc: Global, state: &State, session: SessionId) -> Result<Notices, OutOfMemory>
     ensures { IfOk result (λ told. told ≡ sync_block state.now session) }

@@ -1,4 +1,4 @@
-//! Who is told what of an edit, in which order.
+//! Who is sent what of an edit, in which order.
 
 ghost use Rattle.std.specs.Prelude.{◌≡◌, ◌++◌, IfOk, OnOk, filter, map, not};
 ghost use Rattle.mum_state.specs.Kinds.{is_empty};
@@ -45,7 +45,7 @@ fn tell_others(
     Ok(())
 }
 
-// Tells who joins all, and the others of the newcomer.
+// Sends everything to one that joins, and notifies the others of the newcomer.
 fn tell_of_arrival(
     alloc: Global,
     list: &mut Vec<Notice>,
@@ -75,7 +75,7 @@ fn tell_here(list: &mut Vec<Notice>, state: &State, frames: &[Octets]) -> Result
     tell_all(list, roster.users(), frames)
 }
 
-// Tells of channels that are new or others.
+// Reports channels that are new or others.
 fn tell_of_channels(
     alloc: Global,
     list: &mut Vec<Notice>,
@@ -102,7 +102,7 @@ fn has_some(ids: &[ChannelId]) -> bool
     !ids.is_empty()
 }
 
-// Tells of sessions that are others, and then of channels that are gone.
+// Reports sessions that are others, and then channels that are gone.
 fn tell_of_changes(
     alloc: Global,
     list: &mut Vec<Notice>,
@@ -127,7 +127,7 @@ fn tell_of_changes(
     Ok(())
 }
 
-/// What each session is told of an edit that leads from one state to another: of channels that are new,
+/// What each session is sent of an edit that leads from one state to another: of channels that are new,
 /// then of those that are others, of who joins, of sessions that are others, of channels that are gone, of
 /// who goes, a text, and what each may do where a policy was set. It costs in proportion to what the edit
 /// can touch and to the parcels that it makes.

@@ -1,4 +1,4 @@
-//! Texts and whom they reach; and what a session is told of its permissions.
+//! Texts and whom they reach; and what a session is sent of its permissions.
 
 ghost use Rattle.std.specs.Prelude.{◌≡◌, [], ◌∷◌, ◌++◌, IfOk, IsTrue, OnOk, filter, map};
 ghost use Rattle.std.specs.List.{list_all, list_any};
@@ -53,7 +53,7 @@ fn may_text(state: &State, actor: SessionId, channel: ChannelId) -> bool
     }
 }
 
-/// A text, with all that it names.
+// A text, with all that it names.
 #[derive(Drop)]
 pub(crate) struct TextSent<'a> {
     pub(crate) actor: SessionId,
@@ -154,7 +154,7 @@ fn tell_text(
     Ok(())
 }
 
-// Tells a text, of which this is the message, to those whom it is for.
+// Sends a text, of which this is the message, to those whom it is for.
 fn send_text(
     alloc: Global,
     list: &mut Vec<Notice>,
@@ -176,7 +176,7 @@ fn send_text(
     tell_text(list, state, text, &named, roster.users(), &frame)
 }
 
-/// Tells a text to those whom it is for.
+// Sends a text to those whom it is for.
 pub(crate) fn tell_of_text(
     alloc: Global,
     list: &mut Vec<Notice>,
@@ -248,7 +248,7 @@ fn tell_permission(
     Ok(())
 }
 
-// Each of these sessions is told what it may do where it is.
+// Each of these sessions is sent what it may do where it is.
 fn tell_permissions(
     alloc: Global,
     list: &mut Vec<Notice>,
@@ -265,7 +265,7 @@ fn tell_permissions(
     Ok(())
 }
 
-/// Tells each session what it may do where it is, where a policy was set.
+// Notifies each session of what it may do where it is, where a policy was set.
 pub(crate) fn tell_of_policy(
     alloc: Global,
     list: &mut Vec<Notice>,

@@ -1,4 +1,4 @@
-//! What is told of sessions that are new or changed.
+//! What is reported of sessions that are new or changed.
 
 ghost use Rattle.std.specs.Prelude.{◌≡◌, ◌++◌, ◌||◌, IfOk, IsTrue, OnOk, filter, map, not};
 ghost use Rattle.std.specs.List.{flat_map, list_all};
@@ -20,7 +20,7 @@ use mum_state::{Edit, State};
 use mum_users::{ListenerPair, Roster, User};
 use std::alloc::Global;
 
-/// A flag, where it is set.
+// A flag, where it is set.
 pub(crate) fn said_if_set(flag: bool) -> Option<bool>
     ensures { result ≡ said_if_set flag }
 {
@@ -73,7 +73,7 @@ fn user_told(alloc: Global, roster: &Roster, user: &User) -> Result<UserState, O
     })
 }
 
-/// The frame that tells all of a session.
+// The frame that reports all of a session.
 pub(crate) fn frame_of_user(
     alloc: Global,
     roster: &Roster,
@@ -221,7 +221,7 @@ fn tells_of_user(message: &UserState) -> bool
         || !message.listening_channel_remove.as_slice().is_empty()
 }
 
-// One frame more, where the message tells something.
+// One frame more, where the message reports something.
 fn push_difference(
     alloc: Global,
     frames: &mut Vec<Octets>,
@@ -300,7 +300,7 @@ fn difference_of(
     Ok(frames)
 }
 
-/// The frames that tell of sessions that the edit made others, where it takes a channel away or not.
+// The frames that report sessions that the edit made others, where it takes a channel away or not.
 pub(crate) fn user_change_frames(
     alloc: Global,
     before: &State,

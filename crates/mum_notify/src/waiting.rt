@@ -55,7 +55,7 @@ impl NoticeQueue {
         self.notices.len()
     }
 
-    /// Puts a notice at the back. After want of memory it is not there.
+    /// Puts a notice at the back. Where memory runs out, it is not there.
     pub fn put(&mut self, notice: Notice) -> Result<(), OutOfMemory>
         ensures ok { OnOk result (self.new ≡ self.old ++ notice ∷ []) }
         ensures err { OnErr result (self.new ≡ self.old) }
@@ -63,7 +63,7 @@ impl NoticeQueue {
         self.notices.push_back(notice).map_err(AllocError::from)
     }
 
-    /// The same of a notice that stands elsewhere too.
+    // The same of a notice that is elsewhere too.
     fn put_shared(&mut self, notice: &Notice) -> Result<(), OutOfMemory>
         ensures ok { OnOk result (self.new ≡ self.old ++ notice.now ∷ []) }
         ensures err { OnErr result (self.new ≡ self.old) }
@@ -71,7 +71,7 @@ impl NoticeQueue {
         self.put(shared(notice)?)
     }
 
-    /// Puts notices at the back. After want of memory none of them is there.
+    /// Puts notices at the back. Where memory runs out, none of them is there.
     pub fn put_all(&mut self, told: &[Notice]) -> Result<(), OutOfMemory>
         ensures ok { OnOk result (self.new ≡ self.old ++ told.now) }
         ensures err { OnErr result (self.new ≡ self.old) }
@@ -85,7 +85,7 @@ impl NoticeQueue {
         Ok(())
     }
 
-    /// The notice at the back goes.
+    // The notice at the back goes.
     fn drop_back(&mut self)
         ensures { self.new ≡ take (length self.old - 1) self.old }
     {

@@ -6,7 +6,7 @@ ghost use Rattle.mum_notify.specs.Users.{watch_given, watch_own, whom_to_watch};
 use mum_base::SessionId;
 use mum_state::Edit;
 
-/// Whose row, or whose listening, an edit can change.
+// Whose row, or whose listening, an edit can change.
 #[derive(Clone, Copy)]
 pub(crate) enum Watch {
     Nobody,
@@ -39,7 +39,7 @@ fn watch_own(edit: &Edit) -> Watch
     }
 }
 
-/// Whom the edit can make another, where it takes a channel away or not.
+// Whom the edit can make another, where it takes a channel away or not.
 pub(crate) fn whom_to_watch(edit: &Edit, closes: bool) -> Watch
     ensures { result ≡ whom_to_watch edit.now closes }
 {

@@ -1,9 +1,9 @@
 -- The edits of what a document describes are those of the document.
 use Rattle.std.proofs.Common.{◌≡◌, ℕ, List, [], ◌∷◌, Some, sym, ap}
 use Rattle.std.specs.Option.{option_map_or}
-use Rattle.mum_config.specs.declared.config.Config.{Config}
 use Rattle.mum_state.specs.declared.edit.Edit.{Edit}
 use Rattle.mum_state.specs.After.{after}
+use Rattle.mum_config.specs.declared.config.Config.{Config}
 use Rattle.mum_opening.specs.Opening.{described, document_edits, greatest_limits, opening, served_edits}
 
 pub edits_are : (document : List ℕ) (config : Config) → described document ≡ Some config → config.edits ≡ document_edits document

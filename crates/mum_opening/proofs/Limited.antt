@@ -1,11 +1,8 @@
 -- Edits after limits that are set in the empty server.
 use Rattle.std.proofs.Common.{◌≡◌, ◌∙◌, ℕ, List, [], ◌∷◌, ◌++◌, ap}
 use Rattle.std.specs.Prelude.{IsTrue}
-use Rattle.mum_state.specs.declared.edit.Edit.{Edit}
-use Rattle.mum_state.specs.declared.edit.Edit.TheVariants.{SetLimits}
-use Rattle.mum_state.specs.After.{after, all_fit, led_to}
-use Rattle.mum_state.specs.Fits.{fits}
-use Rattle.mum_state.specs.State.{StateValue, empty_state}
+use Rattle.mum_state.specs.declared.edit.Edit.{Edit, TheVariants.SetLimits}
+use Rattle.mum_state.specs.{After.after, After.all_fit, After.led_to, Fits.fits, State.StateValue, State.empty_state}
 use Rattle.mum_config.specs.Limits.{FitAfterLimits}
 
 -- edits that fit after limits fit the state that setting these leaves

@@ -1,15 +1,12 @@
 -- The state at which the steps of a recording and the entries of a journal begin: the limits and the document of its head.
 use Rattle.std.specs.Prelude.{ℕ, List, [], ◌∷◌, ◌++◌, Option, Some, None}
 use Rattle.std.specs.Option.{option_map_or}
-use Rattle.mum_config.specs.Document.{config_in, fault_of}
-use Rattle.mum_config.specs.declared.config.Config.{Config}
-use Rattle.mum_config.specs.declared.config.TheConstants.{DEFAULT_WORKERS}
-use Rattle.mum_document.specs.Fault.{Fault}
 use Rattle.mum_record.specs.declared.head.TheConstants.{MOST_CHANNELS, MOST_SESSIONS}
-use Rattle.mum_state.specs.declared.edit.Edit.{Edit}
-use Rattle.mum_state.specs.declared.edit.Edit.TheVariants.{SetLimits}
-use Rattle.mum_state.specs.After.{after}
-use Rattle.mum_state.specs.State.{StateValue}
+use Rattle.mum_state.specs.declared.edit.Edit.{Edit, TheVariants.SetLimits}
+use Rattle.mum_state.specs.{After.after, State.StateValue}
+use Rattle.mum_document.specs.Fault.{Fault}
+use Rattle.mum_config.specs.Document.{config_in, fault_of}
+use Rattle.mum_config.specs.declared.config.{Config.Config, TheConstants.DEFAULT_WORKERS}
 
 -- the first fault of a document; where there is none, there is no fault
 abbrev pub document_fault : List ℕ → Option Fault

@@ -1,9 +1,8 @@
 -- What reading the document of a head answers.
 use Rattle.std.specs.Prelude.{◌≡◌, ℕ, List, Some, None, Result, Ok, Err}
-use Rattle.mum_config.specs.Refusal.{NamesByCode}
-use Rattle.mum_config.specs.declared.config.Config.{Config}
-use Rattle.mum_config.specs.declared.refusal.BadConfig.{BadConfig}
 use Rattle.mum_state.specs.declared.edit.Edit.{Edit}
+use Rattle.mum_config.specs.Refusal.{NamesByCode}
+use Rattle.mum_config.specs.declared.{config.Config.Config, refusal.BadConfig.BadConfig}
 use Rattle.mum_opening.specs.Opening.{described, document_edits, document_fault}
 
 -- what a document describes in which there is no fault, or its first fault; or memory ran out

@@ -2,7 +2,7 @@
 //! that its head names, and after the edits that its document describes.
 #![tactic(auto)]
 
-ghost use Rattle.std.specs.Prelude.{◌≡◌, ◌≤◌, ◌++◌, IfOk, IsTrue, None};
+ghost use Rattle.std.specs.Prelude.{◌≡◌, ◌≢◌, ◌≤◌, ◌++◌, [], IfErr, IfOk, IsTrue, None};
 ghost use Rattle.mum_config.specs.Limits.{FitAfterLimits};
 ghost use Rattle.mum_state.specs.declared.edit.Edit.TheVariants.{SetLimits};
 ghost use Rattle.mum_state.specs.After.{after, all_fit};
@@ -27,6 +27,8 @@ pub fn read_document(alloc: Global, document: &[u8]) -> Result<Config, BadConfig
     ensures fit { IfOk result (λ config. IsTrue (all_fit empty_state config.edits)) }
     ensures limited { IfOk result (λ config. FitAfterLimits config.edits) }
     ensures workers { IfOk result (λ config. (1 ≤ config.workers) × (config.workers ≤ 8)) }
+    // One of no bytes takes no memory.
+    ensures memory { IfErr result (λ error. document.now ≢ []) }
 {
     if document.is_empty() {
         return Ok(Config {
@@ -43,6 +45,8 @@ pub fn document_edits(alloc: Global, document: &[u8]) -> Result<Items<Edit>, Bad
     ensures reads { ReadsDocument document.now result }
     ensures fit { IfOk result (λ edits. IsTrue (all_fit empty_state edits)) }
     ensures limited { IfOk result FitAfterLimits }
+    // One of no bytes takes no memory.
+    ensures memory { IfErr result (λ error. document.now ≢ []) }
 {
     match read_document(alloc, document) {
         Ok(Config { edits, .. }) => Ok(edits),

@@ -1,16 +1,6 @@
 -- The making of a pass keeps the rule.
-use Rattle.std.proofs.Common.{Bool, if◌then◌else◌, ◌/◌, ◌≡◌, ◌≢◌, ℕ, ◌+◌, ◌-◌, ◌<◌, ◌≤◌, ◌⊎◌, min, inl, inr, ⊎_elim, List, [], ◌∷◌, ◌++◌, set, sym, refl, ap, arith}
-use Rattle.std.specs.List.{All, AllPairs, Contains}
-use Rattle.std.proofs.lemmas.List.Elements.{All-nil, All-weaker}
-use Rattle.std.proofs.lemmas.Bool.{cases_lt, lt-ltb, le-ltb}
-use Rattle.std.proofs.Math.Nat.{div-le_self}
-use Rattle.crossbeam_queue.specs.Fifo.{Forks}
-use Rattle.mum_outbox.specs.declared.rule.TheConstants.{LAST}
-use Rattle.mum_outbox.specs.declared.rule.Tagged.{Tagged}
-use Rattle.mum_outbox.specs.declared.rule.Hand.{Hand}
-use Rattle.mum_outbox.specs.Rule.{StandsAt, IsBefore, EachHand, IsAsOffered, LosesNone, TakeApart, BoxRule, TaggedRule, new_hand, after_giving, given_number, after_halving, given_half, least_number, middle}
-use Rattle.mum_outbox.proofs.Hands.{Follows, follows_set, follows_push, as_offered_still, somewhere_still, each_set, two_set, each_push, two_push}
-use Rattle.mum_outbox.proofs.Numbers.{IsCut, new_numbers}
+use Rattle.mum_outbox.proofs.Common.{Bool, if◌then◌else◌, ◌/◌, ◌≡◌, ◌≢◌, ℕ, ◌+◌, ◌-◌, ◌<◌, ◌≤◌, ◌⊎◌, min, inl, inr, ⊎_elim, List, [], ◌∷◌, ◌++◌, set, sym, refl, ap, arith, All, AllPairs, Contains, All-nil, All-weaker, cases_lt, lt-ltb, le-ltb, div-le_self, Forks, LAST, Tagged, Hand, StandsAt, IsBefore, EachHand, IsAsOffered, LosesNone, TakeApart, BoxRule, TaggedRule, new_hand, after_giving, given_number, after_halving, given_half, least_number, middle}
+use Rattle.mum_outbox.proofs.{Hands.Follows, Hands.follows_set, Hands.follows_push, Hands.as_offered_still, Hands.somewhere_still, Hands.each_set, Hands.two_set, Hands.each_push, Hands.two_push, Numbers.IsCut, Numbers.new_numbers}
 
 -- the number that a new pass gets
 which_number : (low end : ℕ) → ((least_number low end ≡ low) × (low < end)) ⊎ (least_number low end ≡ LAST)

@@ -1,11 +1,5 @@
 -- How many numbers the owners of a queue have to give.
-use Rattle.std.proofs.Common.{◌≡◌, ◌∙◌, ℕ, ◌+◌, ◌-◌, ◌*◌, ◌/◌, ◌<◌, ◌≤◌, Bool, if◌then◌else◌, ap, subst, sym, arith}
-use Rattle.std.proofs.lemmas.Bool.{lt-ltb}
-use Rattle.std.proofs.Math.Nat.{div-le_self}
-use Rattle.mum_outbox.specs.declared.rule.TheConstants.{LAST}
-use Rattle.mum_outbox.specs.Calls.{HasNumbers, Halves, IsFirst, IsNewPass, lower_half, upper_half}
-use Rattle.mum_outbox.specs.Facts.{PassFacts, QueueFacts}
-use Rattle.mum_outbox.specs.Rule.{after_least, least_number, middle}
+use Rattle.mum_outbox.proofs.Common.{◌≡◌, ℕ, ◌+◌, ◌*◌, ◌<◌, ◌≤◌, Bool, if◌then◌else◌, ap, subst, sym, arith, lt-ltb, LAST, HasNumbers, Halves, IsFirst, IsNewPass, lower_half, upper_half, PassFacts, QueueFacts, after_least, least_number}
 
 -- the first owner has all numbers below the last
 pub first_has : (name : ℕ) (owner : QueueFacts) → IsFirst name owner → HasNumbers LAST owner
@@ -15,7 +9,7 @@ first_has name owner first = let low = first.low_is in let end = first.end_is in
 pub has_fewer : (count fewer : ℕ) (owner : QueueFacts) → fewer ≤ count → HasNumbers count owner → HasNumbers fewer owner
 has_fewer count fewer owner less has = let enough = has.enough in record { enough = omega arith; below = has.below }
 
--- of an owner that has so many twice, each half has so many
+-- of an owner that has 2 n, each half has n
 pub lower_has : (count : ℕ) (owner : QueueFacts) → HasNumbers (2 * count) owner → HasNumbers count (lower_half owner)
 lower_has count owner has = let enough = has.enough in let below = has.below in record { enough = omega arith; below = omega arith }
 

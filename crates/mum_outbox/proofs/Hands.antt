@@ -1,15 +1,5 @@
--- Lists in which each element stands before each later one, and the hands of passes after one of them has changed.
-use Rattle.std.proofs.Common.{◌≡◌, ◌≢◌, ℕ, zero, suc, ◌<◌, ◌⊎◌, inl, inr, ⊎_elim, List, [], ◌∷◌, ◌++◌, length, set, get_or, sym, refl, ap, ◌∙◌, subst, arith}
-use Rattle.std.specs.List.{All, AllPairs, Contains}
-use Rattle.std.proofs.lemmas.List.Elements.{All-nil, All-cons, All-head, All-tail, All-contains, Contains-append_right}
-use mathlib.Core.Option.{some-injective, some-ne-none}
-use mathlib.Core.Logic.{dite}
-use native.Mathlib.Decide.{ℕ_discrete}
-use lib.ListN.{get_elem?}
-use Rattle.crossbeam_queue.proofs.Lists.{at_set, set_here, set_else, at_longer}
-use Rattle.mum_outbox.specs.declared.rule.Tagged.{Tagged}
-use Rattle.mum_outbox.specs.declared.rule.Hand.{Hand}
-use Rattle.mum_outbox.specs.Rule.{StandsAt, EachHand, EachTwo, IsAsOffered, IsSomewhere}
+-- Lists in which each element comes before each later one, and the hands of passes after one of them has changed.
+use Rattle.mum_outbox.proofs.Common.{◌≡◌, ◌≢◌, ℕ, zero, suc, ◌<◌, ◌⊎◌, inl, inr, ⊎_elim, List, [], ◌∷◌, ◌++◌, length, set, get_or, sym, refl, ap, ◌∙◌, subst, arith, All, AllPairs, Contains, All-nil, All-cons, All-head, All-tail, All-contains, Contains-append_right, some-injective, some-ne-none, dite, ℕ_discrete, get_elem?, at_set, set_here, set_else, at_longer, Tagged, Hand, StandsAt, EachHand, EachTwo, IsAsOffered, IsSomewhere}
 
 module _ {A : Type 0} where
   pub within : (xs : List A) (place : ℕ) (x : A) → StandsAt xs place x → place < length xs

@@ -1,3 +1,5 @@
+mod Common
+pub mod Public
 pub mod Hands
 pub mod Numbers
 pub mod Offers

@@ -1,8 +1,5 @@
 -- Each pass has a number of its own, whatever passes are made.
-use Rattle.std.proofs.Common.{◌≡◌, ◌≢◌, ℕ, ◌≤◌, ◌⊎◌, ⊎_elim, List, [], ◌∷◌, ◌++◌, set, sym, ◌∙◌, subst, arith}
-use Rattle.mum_outbox.specs.declared.rule.TheConstants.{LAST}
-use Rattle.mum_outbox.specs.declared.rule.Hand.{Hand}
-use Rattle.mum_outbox.specs.Rule.{StandsAt, EachHand, MayGive, HaveOwnNumbers}
+use Rattle.mum_outbox.proofs.Common.{◌≡◌, ◌≢◌, ℕ, ◌≤◌, ◌⊎◌, ⊎_elim, List, [], ◌∷◌, ◌++◌, set, sym, ◌∙◌, subst, arith, LAST, Hand, StandsAt, EachHand, MayGive, HaveOwnNumbers}
 use Rattle.mum_outbox.proofs.Hands.{each_set, two_set, each_push, two_push}
 
 module _ {I : Type 0} where

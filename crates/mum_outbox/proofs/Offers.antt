@@ -1,20 +1,6 @@
 -- An offer keeps the rule.
-use Rattle.std.proofs.Common.{◌≡◌, ℕ, ◌+◌, ◌<◌, ◌≤◌, min, inl, ⊎_elim, List, [], ◌∷◌, ◌++◌, length, set, get_or, sym, refl, ap, ◌∙◌, subst, append_assoc, length-append, arith}
-use Rattle.std.specs.List.{All, AllPairs}
-use Rattle.std.proofs.lemmas.List.{length-map, map_push}
-use Rattle.std.proofs.lemmas.List.Elements.{All-push, All-append, All-weaker, Contains-push, Contains-append_left}
-use Rattle.std.proofs.lemmas.List.Quantifiers.{all_pairs_push}
-use Rattle.std.proofs.lemmas.Bool.{cases_lt}
-use mathlib.Core.Logic.{dite}
-use native.Mathlib.Decide.{ℕ_discrete}
-use Rattle.crossbeam_queue.specs.Fifo.{Pushes}
-use Rattle.crossbeam_queue.proofs.Lists.{set_here, at_longer, at_last}
-use Rattle.mum_outbox.specs.declared.rule.TheConstants.{LAST}
-use Rattle.mum_outbox.specs.declared.rule.Tagged.{Tagged}
-use Rattle.mum_outbox.specs.declared.rule.Hand.{Hand}
-use Rattle.mum_outbox.specs.Rule.{StandsAt, IsBefore, IsAsOffered, IsSomewhere, LosesNone, TakeApart, BoxRule, TaggedRule, item_of}
-use Rattle.mum_outbox.proofs.Hands.{within, same_there, Follows, follows_set, as_offered_still, somewhere_still, each_set, two_set}
-use Rattle.mum_outbox.proofs.Numbers.{numbers_kept}
+use Rattle.mum_outbox.proofs.Common.{◌≡◌, ℕ, ◌+◌, ◌<◌, ◌≤◌, min, inl, ⊎_elim, List, [], ◌∷◌, ◌++◌, length, set, get_or, sym, refl, ap, ◌∙◌, subst, append_assoc, length-append, arith, All, AllPairs, length-map, map_push, All-push, All-append, All-weaker, Contains-push, Contains-append_left, all_pairs_push, cases_lt, dite, ℕ_discrete, Pushes, set_here, at_longer, at_last, LAST, Tagged, Hand, StandsAt, IsBefore, IsAsOffered, IsSomewhere, LosesNone, TakeApart, BoxRule, TaggedRule, item_of}
+use Rattle.mum_outbox.proofs.{Hands.within, Hands.same_there, Hands.Follows, Hands.follows_set, Hands.as_offered_still, Hands.somewhere_still, Hands.each_set, Hands.two_set, Numbers.numbers_kept}
 
 -- places below the last value are the length that they stand for
 place_is : (place long : ℕ) → place ≡ min long LAST → place < LAST → long ≡ place

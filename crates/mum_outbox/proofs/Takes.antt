@@ -1,14 +1,6 @@
 -- A take keeps the rule.
-use Rattle.std.proofs.Common.{◌≡◌, ◌≢◌, ℕ, inl, inr, ⊎_elim, List, [], ◌∷◌, ◌++◌, length, map, set, get_or, drop, sym, refl, ap, ◌∙◌, subst, append_assoc, arith}
-use Rattle.std.specs.List.{All, AllPairs, Contains}
-use Rattle.std.proofs.lemmas.List.Elements.{All-head, All-tail, All-push, All-weaker, Contains-push, Contains-push_cases, Contains-append_left}
-use Rattle.crossbeam_queue.specs.Fifo.{Pops}
-use Rattle.crossbeam_queue.proofs.Lists.{set_here}
-use Rattle.mum_outbox.specs.declared.rule.Tagged.{Tagged}
-use Rattle.mum_outbox.specs.declared.rule.Hand.{Hand}
-use Rattle.mum_outbox.specs.Rule.{StandsAt, IsNumbered, IsBefore, IsAsOffered, IsSomewhere, LosesNone, TakeApart, BoxRule, TaggedRule, item_of}
-use Rattle.mum_outbox.proofs.Hands.{within, Contains-cons_cases, pairs_front, pairs_tail, pairs_without, pairs_across, Follows, follows_set, as_offered_still, somewhere_still, each_set, two_set}
-use Rattle.mum_outbox.proofs.Numbers.{numbers_kept}
+use Rattle.mum_outbox.proofs.Common.{◌≡◌, ◌≢◌, ℕ, inl, inr, ⊎_elim, List, [], ◌∷◌, ◌++◌, length, map, set, get_or, drop, sym, refl, ap, ◌∙◌, subst, append_assoc, arith, All, AllPairs, Contains, All-head, All-tail, All-push, All-weaker, Contains-push, Contains-push_cases, Contains-append_left, Pops, set_here, Tagged, Hand, StandsAt, IsNumbered, IsBefore, IsAsOffered, IsSomewhere, LosesNone, TakeApart, BoxRule, TaggedRule, item_of}
+use Rattle.mum_outbox.proofs.{Hands.within, Hands.Contains-cons_cases, Hands.pairs_front, Hands.pairs_tail, Hands.pairs_without, Hands.pairs_across, Hands.Follows, Hands.follows_set, Hands.as_offered_still, Hands.somewhere_still, Hands.each_set, Hands.two_set, Numbers.numbers_kept}
 
 module _ {I : Type 0} where
   module _ (capacity : ℕ) (x : Tagged I) (items : List (Tagged I)) (hands : List (Hand I)) (rule : BoxRule capacity (x ∷ items) hands) (port : ℕ) (v : Hand I) (at : StandsAt hands port v) where

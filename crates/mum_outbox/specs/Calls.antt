@@ -2,14 +2,12 @@
 use Rattle.std.specs.Prelude.{◌≡◌, ℕ, ◌+◌, ◌≤◌, min, Option, Some, None, List, [], ◌∷◌, ◌++◌}
 use Rattle.std.specs.List.{AllPairs}
 use Rattle.crossbeam_queue.specs.Fifo.{Held}
-use Rattle.mum_outbox.specs.declared.rule.TheConstants.{LAST}
-use Rattle.mum_outbox.specs.declared.rule.Tagged.{Tagged}
-use Rattle.mum_outbox.specs.declared.queue.Offered.{Offered}
+use Rattle.mum_outbox.specs.declared.{rule.TheConstants.LAST, rule.Tagged.Tagged, queue.Offered.Offered}
 use Rattle.mum_outbox.specs.declared.queue.Offered.TheVariants.{Sent, Full}
 use Rattle.mum_outbox.specs.Rule.{IsBefore, IsMomentOf, least_number, middle}
 use Rattle.mum_outbox.specs.Facts.{QueueFacts, PassFacts, hand_of_pass}
 
--- a count that stands still at its last value
+-- a count that stays at its last value
 abbrev pub one_more : ℕ → ℕ
 one_more count = min (count + 1) LAST
 
@@ -40,7 +38,7 @@ pub record IsFirst (name : ℕ) (owner : QueueFacts) : Type 0 where
   pub low_is : owner.low ≡ 0
   pub end_is : owner.end ≡ LAST
 
--- the owner has at least so many numbers to give, each below the last
+-- the owner has at least n numbers to give, each below the last
 pub record HasNumbers (count : ℕ) (owner : QueueFacts) : Type 0 where
   pub enough : owner.low + count ≤ owner.end
   pub below : owner.end ≤ LAST

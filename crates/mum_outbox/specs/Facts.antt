@@ -1,8 +1,7 @@
 -- What contracts see of a queue and of a pass, as plain data.
 use Rattle.std.specs.Prelude.{ℕ, List}
 use Rattle.atomic_table.specs.Seated.{TableId}
-use Rattle.mum_outbox.specs.declared.rule.Tagged.{Tagged}
-use Rattle.mum_outbox.specs.declared.rule.Hand.{Hand}
+use Rattle.mum_outbox.specs.declared.rule.{Tagged.Tagged, Hand.Hand}
 
 -- which queue it is: its table, and the name that it was given when it was made. Owners and passes of one queue have its
 -- name, so queues of two names are two queues

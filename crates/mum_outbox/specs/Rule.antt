@@ -1,14 +1,12 @@
 -- The rule of a queue: which items are where, whatever threads have offered and taken.
 -- A hand is what one pass has done to the queue. Hands are of all passes ever made, each at its port: the place at which
 -- the pass was made. A tag says which pass offered an item, and at which place. Numbers of passes and places of items
--- stand still at their last value; what is said of an item is said where both are below it.
+-- stay at their last value; what is said of an item is said where both are below it.
+use lib.ListN.{get_elem?}
+use mathlib.Core.Option.{some}
 use Rattle.std.specs.Prelude.{◌≡◌, ◌≢◌, ℕ, ◌+◌, ◌-◌, ◌/◌, ◌<◌, ◌≤◌, ◌⊎◌, min, nat_lt, if◌then◌else◌, List, [], ◌++◌, length, map}
 use Rattle.std.specs.List.{All, AllPairs, Contains}
-use mathlib.Core.Option.{some}
-use lib.ListN.{get_elem?}
-use Rattle.mum_outbox.specs.declared.rule.TheConstants.{LAST}
-use Rattle.mum_outbox.specs.declared.rule.Tagged.{Tagged}
-use Rattle.mum_outbox.specs.declared.rule.Hand.{Hand}
+use Rattle.mum_outbox.specs.declared.rule.{TheConstants.LAST, Tagged.Tagged, Hand.Hand}
 
 -- the element at this place is this one
 abbrev pub StandsAt : {A : Type 0} → List A → ℕ → A → Type 0
@@ -23,7 +21,7 @@ module _ {I : Type 0} where
   abbrev pub AreTagged : (List (Tagged I) → Type 0) → List I → Type 0
   AreTagged P items = (tagged : List (Tagged I)) × (map item_of tagged ≡ items) × P tagged
 
-  -- neither the number of its pass nor its place stands still
+  -- neither the number of its pass nor its place stays
   abbrev pub IsNumbered : Tagged I → Type 0
   IsNumbered x = (x.by < LAST) × (x.place < LAST)
 
@@ -43,7 +41,8 @@ module _ {I : Type 0} where
   -- the item equals the one at its place in what the pass of its number offered
   abbrev pub IsAsOffered : List (Hand I) → Tagged I → Type 0
   IsAsOffered hands x = IsNumbered x
-      → (port : ℕ) × (hand : Hand I) × StandsAt hands port hand × (hand.number ≡ x.by) × StandsAt hand.offered x.place x.item
+      → (port : ℕ) × (hand : Hand I) × StandsAt hands port hand × (hand.number ≡ x.by)
+      × StandsAt hand.offered x.place x.item
 
   -- the item is in the queue, or a pass has taken it
   abbrev pub IsSomewhere : List (Tagged I) → List (Hand I) → Tagged I → Type 0

@@ -22,7 +22,7 @@ pub enum Offered<I> {
     Full(I),
 }
 
-/// The queue below, under the rule.
+// The queue below, under the rule.
 type Ruled<I, const CAPACITY: usize> = RuledArrayQueue<I, Hand<I>, BoxProtocol<CAPACITY>>;
 
 /// An owner of a queue of at most `CAPACITY` items, which threads share. Which numbers it may give to

@@ -26,7 +26,7 @@ pub struct Hand<I> {
     pub taken: LinkedList<Tagged<I>>,
 }
 
-/// The rule of a queue that holds so many items.
+/// The rule of a queue that holds n items.
 pub struct BoxProtocol<const CAPACITY: usize>;
 
 impl<I, const CAPACITY: usize> Protocol<I, Hand<I>> for BoxProtocol<CAPACITY> {
@@ -37,7 +37,7 @@ impl<I, const CAPACITY: usize> Protocol<I, Hand<I>> for BoxProtocol<CAPACITY> {
     ghost first = { first_hand };
 }
 
-/// A pass is made: it gets the least number of the range.
+// A pass is made: it gets the least number of the range.
 pub(crate) struct GivesNumber;
 
 impl<I> Split<Hand<I>> for GivesNumber {
@@ -48,7 +48,7 @@ impl<I> Split<Hand<I>> for GivesNumber {
     ghost right = { given_number };
 }
 
-/// Another owner is made: it gets the upper half of the range.
+// Another owner is made: it gets the upper half of the range.
 pub(crate) struct GivesHalf;
 
 impl<I> Split<Hand<I>> for GivesHalf {
@@ -59,7 +59,7 @@ impl<I> Split<Hand<I>> for GivesHalf {
     ghost right = { given_half };
 }
 
-/// An offer adds its item, or finds the queue full.
+// An offer adds its item, or finds the queue full.
 pub(crate) struct Offering<const CAPACITY: usize>;
 
 impl<I, const CAPACITY: usize> Outcome<I, Hand<I>> for Offering<CAPACITY> {
@@ -72,7 +72,7 @@ impl<I, const CAPACITY: usize> Lesson<I, Hand<I>> for Offering<CAPACITY> {
     ghost fact = { λ hand items. AreTagged (IsMomentOf CAPACITY hand) items };
 }
 
-/// A take gets the oldest item, or finds the queue empty.
+// A take gets the oldest item, or finds the queue empty.
 pub(crate) struct Taking<const CAPACITY: usize>;
 
 impl<I, const CAPACITY: usize> Outcome<I, Hand<I>> for Taking<CAPACITY> {

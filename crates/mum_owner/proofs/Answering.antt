@@ -1,37 +1,6 @@
 -- The replies that are made of commands and leaves, over each part of a turn and over turns.
-use Rattle.std.proofs.Common.{◌≡◌, ◌∙◌, ℕ, Bool, true, false, List, [], ◌∷◌, ◌++◌, length, map, Option, Some, None, refl, ap, sym, inl, inr}
-use Rattle.std.specs.Prelude.{◌&&◌, find, is_some, nat_lt, MatchOption, option_to_list}
-use Rattle.std.specs.Option.{option_map}
-use Rattle.std.proofs.lemmas.List.{map-append}
-use Rattle.mum_base.specs.declared.number.SessionId.{SessionId}
-use Rattle.mum_base.specs.declared.number.TheConstants.{CONNECTION_LIMIT}
-use Rattle.mum_control.specs.Commanded.{Commanded, Decides, current}
-use Rattle.mum_control.specs.Facts.{ControlFacts}
-use Rattle.mum_published.specs.Facts.{ReplyFacts}
-use Rattle.mum_crew.specs.Turns.{TurnsTo}
-use Rattle.mum_crew.specs.declared.role.Turn.{Turn}
-use Rattle.mum_io.specs.Door.{DoorFacts}
-use Rattle.mum_io.specs.Link.{LinkFacts}
-use Rattle.mum_port.specs.declared.item.DeskItem.{DeskItem}
+use Rattle.mum_owner.proofs.Common.{◌≡◌, ◌∙◌, ℕ, Bool, true, false, List, [], ◌∷◌, ◌++◌, length, map, Option, Some, None, refl, ap, sym, inl, inr, ◌&&◌, find, is_some, nat_lt, MatchOption, option_to_list, option_map, map-append, SessionId, CONNECTION_LIMIT, Commanded, Decides, current, ControlFacts, ReplyFacts, TurnsTo, Turn, DoorFacts, LinkFacts, DeskItem, verdict, Command, Verdict, Accepted, Lacks, Refused, Rejected, Answer, Ignored, sent, WardenFacts, verdict_in, Book, KeptFacts, OwnerFacts, is_of, owned, session_of, connections_of, connections_settled, leave_where, made, one_tested, replies_made, settled, settled_by, settled_given, settled_item, settled_owned, settled_waiting, Answers, IsGivenOrRefused, ListComesTo, SettledBy, SettlesList, TestedBy, ban_reply, banned_in, book_after, is_banned, list_reply, with_warden, IsGiven, roll_of, LeaveIsGiven, Next, Receives, ReceivesBy, ReceivesItem, Serves, ServesDesk, kept_after, leave_of, may_go, must_wait, next, next_by, with_pass, Again, Goes, Rest, Take, OwnerTurned, is_leave, is_login, PENDING_LIMIT, Guest}
 use Rattle.mum_port.specs.declared.item.DeskItem.TheVariants as items
-use Rattle.mum_session.specs.Verdict.{verdict}
-use Rattle.mum_session.specs.declared.command.Command.{Command}
-use Rattle.mum_state.specs.declared.verdict.Verdict.{Verdict}
-use Rattle.mum_state.specs.declared.verdict.Verdict.TheVariants.{Accepted, Lacks, Refused, Rejected, Answer, Ignored}
-use Rattle.mum_warden.specs.Answer.{sent}
-use Rattle.mum_warden.specs.Warden.{WardenFacts, verdict_in}
-use Rattle.mum_bans.specs.Book.{Book}
-use Rattle.mum_owner.specs.Facts.{KeptFacts, OwnerFacts}
-use Rattle.mum_owner.specs.Guests.{is_of, owned, session_of}
-use Rattle.mum_owner.specs.Laws.{connections_of, connections_settled, leave_where, made, one_tested, replies_made, settled, settled_by, settled_given, settled_item, settled_owned, settled_waiting}
-use Rattle.mum_owner.specs.Banning.{Answers, IsGivenOrRefused, ListComesTo, SettledBy, SettlesList, TestedBy, ban_reply, banned_in, book_after, is_banned, list_reply, with_warden}
-use Rattle.mum_owner.specs.Given.{IsGiven, roll_of}
-use Rattle.mum_owner.specs.Serving.{LeaveIsGiven, Next, Receives, ReceivesBy, ReceivesItem, Serves, ServesDesk, kept_after, leave_of, may_go, must_wait, next, next_by, with_pass}
-use Rattle.mum_owner.specs.Serving.Next.{Again, Goes, Rest, Take}
-use Rattle.mum_owner.specs.Turned.{OwnerTurned}
-use Rattle.mum_owner.specs.Written.{is_leave, is_login}
-use Rattle.mum_owner.specs.declared.desk.TheConstants.{PENDING_LIMIT}
-use Rattle.mum_owner.specs.declared.guests.Guest.{Guest}
 
 abbrev pub connection_of : ReplyFacts → ℕ
 connection_of reply = reply.connection

@@ -1,35 +1,7 @@
 -- The bans, over each part of a turn and over turns.
-use Rattle.std.proofs.Common.{◌≡◌, ◌∙◌, ℕ, Bool, true, false, cond, List, [], ◌∷◌, ◌++◌, Option, Some, None, refl, ap, sym, inl, inr}
-use Rattle.std.specs.Prelude.{◌&&◌, MatchBool, MatchOption, fold, is_none, is_some, option_to_list, unwrap_or}
-use Rattle.mum_outbox.specs.Facts.{QueueId}
-use Rattle.mum_bans.specs.Book.{Adds, Book, Event, after, after_call, bans_of}
-use Rattle.mum_bans.specs.declared.ban.Ban.{Ban}
-use Rattle.mum_base.specs.declared.number.SessionId.{SessionId}
-use Rattle.mum_control.specs.Facts.{ControlFacts}
-use Rattle.mum_crew.specs.Turns.{TurnsTo}
-use Rattle.mum_crew.specs.declared.role.Turn.{Turn}
-use Rattle.mum_io.specs.Door.{DoorFacts}
-use Rattle.mum_io.specs.Link.{LinkFacts}
-use Rattle.mum_port.specs.declared.item.DeskItem.{DeskItem}
+use Rattle.mum_owner.proofs.Common.{◌≡◌, ◌∙◌, ℕ, Bool, true, false, cond, List, [], ◌∷◌, ◌++◌, Option, Some, None, refl, ap, sym, inl, inr, ◌&&◌, MatchBool, MatchOption, fold, is_none, is_some, option_to_list, unwrap_or, QueueId, Adds, Book, Event, after, after_call, bans_of, Ban, SessionId, ControlFacts, TurnsTo, Turn, DoorFacts, LinkFacts, DeskItem, ReplyFacts, Command, sent, WardenFacts, event_in, noted, verdict_in, Answers, IsGivenOrRefused, ListComesTo, SettledBy, TestedBy, ban_reply, banned_in, book_after, has_note, is_banned, list_reply, with_ban, with_warden, ban_added, ban_events, events_given, events_item, events_listed, events_owned, events_received, events_served, events_waiting, OwnerFacts, roll_of, guest_with, owned, IsOpened, LeaveIsGiven, Next, Receives, ReceivesBy, ReceivesItem, Rests, Serves, must_wait, next, with_pass, Again, Goes, Rest, Take, Asks, OwnerTurned, PostsOne, is_not_to_ask, is_over, lag_at, pressing, with_lag, is_leave, is_login, Guest, Lag}
+use Rattle.mum_owner.proofs.{Steps.shown_stays, Warding.warden_stays}
 use Rattle.mum_port.specs.declared.item.DeskItem.TheVariants as items
-use Rattle.mum_published.specs.Facts.{ReplyFacts}
-use Rattle.mum_session.specs.declared.command.Command.{Command}
-use Rattle.mum_warden.specs.Answer.{sent}
-use Rattle.mum_warden.specs.Warden.{WardenFacts, event_in, noted, verdict_in}
-use Rattle.mum_owner.specs.Banning.{Answers, IsGivenOrRefused, ListComesTo, SettledBy, TestedBy, ban_reply, banned_in, book_after, has_note, is_banned, list_reply, with_ban, with_warden}
-use Rattle.mum_owner.specs.Events.{ban_added, ban_events, events_given, events_item, events_listed, events_owned, events_received, events_served, events_waiting}
-use Rattle.mum_owner.specs.Facts.{OwnerFacts}
-use Rattle.mum_owner.specs.Given.{roll_of}
-use Rattle.mum_owner.specs.Guests.{guest_with, owned}
-use Rattle.mum_owner.specs.Opened.{IsOpened}
-use Rattle.mum_owner.specs.Serving.{LeaveIsGiven, Next, Receives, ReceivesBy, ReceivesItem, Rests, Serves, must_wait, next, with_pass}
-use Rattle.mum_owner.specs.Serving.Next.{Again, Goes, Rest, Take}
-use Rattle.mum_owner.specs.Turned.{Asks, OwnerTurned, PostsOne, is_not_to_ask, is_over, lag_at, pressing, with_lag}
-use Rattle.mum_owner.specs.Written.{is_leave, is_login}
-use Rattle.mum_owner.specs.declared.guests.Guest.{Guest}
-use Rattle.mum_owner.specs.declared.kept.Lag.{Lag}
-use Rattle.mum_owner.proofs.Steps.{shown_stays}
-use Rattle.mum_owner.proofs.Warding.{warden_stays}
 
 fold_more : (bans : List Ban) (first later : List Event) → fold after bans (first ++ later) ≡ fold after (fold after bans first) later
 fold_more bans [] later = refl

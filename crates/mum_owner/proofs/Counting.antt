@@ -1,35 +1,13 @@
 -- How many edits were accepted and how many connections were given, over a command.
-use Rattle.std.proofs.Common.{◌≡◌, ◌∙◌, ℕ, ◌+◌, Bool, List, [], ◌∷◌, ◌++◌, length, Option, Some, None, Result, Ok, Err, OnOk, OnErr, ap, sym, inl, inr, arith, length-append}
-use Rattle.mum_base.specs.declared.number.SessionId.{SessionId}
-use Rattle.mum_base.specs.declared.number.Slot.{Slot}
-use Rattle.mum_notify.specs.declared.notice.Notice.{Notice}
-use Rattle.mum_control.specs.Kept.{slot_of}
-use Rattle.mum_control.specs.Posting.{EmptiesPost, PostsNext}
-use Rattle.mum_control.specs.declared.posted.Posted.{Posted}
-use Rattle.mum_owner.specs.Serving.{EmptiesFor}
-use Rattle.mum_state.specs.declared.edit.Edit.{Edit}
-use Rattle.mum_state.specs.declared.verdict.Verdict.{Verdict}
-use Rattle.mum_state.specs.declared.verdict.Verdict.TheVariants.{Accepted, Lacks, Refused, Rejected, Answer, Ignored}
-use Rattle.mum_published.specs.Calls.{all_published, appended}
-use Rattle.mum_published.specs.Facts.{NoteFacts, PublisherFacts, ReplyFacts}
-use Rattle.mum_session.specs.Verdict.{verdict}
-use Rattle.mum_session.specs.declared.command.Command.{Command}
-use Rattle.mum_control.specs.Commanded.{Commanded, Decides, Publishes, current, with_accepted, with_edit}
-use Rattle.mum_control.specs.Facts.{ControlFacts}
-use Rattle.mum_base.specs.declared.reply.Mark.{Mark}
-use Rattle.mum_base.specs.declared.reply.ReplyEnd.{ReplyEnd}
-use Rattle.mum_doorway.specs.Doors.{given_after_all}
-use Rattle.mum_owner.specs.Facts.{GuestsFacts, ScribeFacts}
-use Rattle.mum_owner.specs.Guests.{joined_by}
+use Rattle.mum_owner.proofs.Common.{◌≡◌, ◌∙◌, ℕ, ◌+◌, Bool, List, [], ◌∷◌, ◌++◌, length, Option, Some, None, Result, Ok, Err, OnOk, OnErr, ap, sym, inl, inr, arith, length-append, SessionId, Slot, Notice, slot_of, EmptiesPost, PostsNext, Posted, EmptiesFor, Edit, Verdict, Accepted, Lacks, Refused, Rejected, Answer, Ignored, all_published, appended, NoteFacts, PublisherFacts, ReplyFacts, verdict, Command, Commanded, Decides, current, with_accepted, with_edit, ControlFacts, Mark, ReplyEnd, given_after_all, GuestsFacts, ScribeFacts, joined_by, Draft, accepted_by, recorded}
+use Rattle.mum_control.specs.Commanded.{Publishes}
 use Rattle.mum_owner.proofs.Steps.{joined_given}
-use Rattle.mum_owner.specs.declared.entry.Draft.{Draft}
-use Rattle.mum_owner.specs.Written.{accepted_by, recorded}
 
 -- as many were counted as the control owner has appended
 abbrev pub HasCounted : ControlFacts → ScribeFacts → Type 0
 HasCounted control scribe = scribe.accepted ≡ length (appended control.publisher)
 
--- the door gave those that are counted, one by one, since it had given so many
+-- the door gave those that are counted, one by one, since it had given n
 abbrev pub HasGiven : ℕ → GuestsFacts → ℕ → Type 0
 HasGiven before guests now = now ≡ given_after_all before guests.given
 

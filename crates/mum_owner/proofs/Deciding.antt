@@ -1,30 +1,8 @@
 -- The entries of the journal, over a command.
-use Rattle.std.proofs.Common.{◌≡◌, ◌∙◌, ℕ, ◌+◌, Bool, true, false, List, [], ◌∷◌, ◌++◌, append_assoc, append-nil, length, Option, Some, None, Result, Ok, Err, OnOk, is_err, refl, sym, ap, subst, inl, inr}
-use Rattle.mum_base.specs.declared.number.SessionId.{SessionId}
-use Rattle.mum_base.specs.declared.number.Slot.{Slot}
-use Rattle.mum_base.specs.declared.reply.Mark.{Mark}
-use Rattle.mum_control.specs.Commanded.{Commanded, Decides, Publishes, current, next_revision, with_accepted}
-use Rattle.mum_control.specs.Facts.{ControlFacts}
-use Rattle.mum_control.specs.Kept.{slot_of}
-use Rattle.mum_control.specs.Posting.{EmptiesPost, PostsNext}
-use Rattle.mum_control.specs.declared.posted.Posted.{Posted}
-use Rattle.mum_notify.specs.declared.notice.Notice.{Notice}
-use Rattle.mum_published.specs.Calls.{all_published, appended, state_of}
-use Rattle.mum_published.specs.Facts.{NoteFacts, Opening, PublisherFacts, ReplyFacts}
-use Rattle.mum_record.specs.declared.journal.ControlEntry.{ControlEntry}
-use Rattle.mum_session.specs.Reply.{mark}
-use Rattle.mum_session.specs.Verdict.{edits_of, verdict}
-use Rattle.mum_session.specs.declared.command.Command.{Command}
-use Rattle.mum_state.specs.declared.edit.Edit.{Edit}
-use Rattle.mum_state.specs.declared.verdict.Verdict.{Verdict}
-use Rattle.mum_state.specs.declared.verdict.Verdict.TheVariants.{Accepted, Lacks, Refused, Rejected, Answer, Ignored}
-use Rattle.mum_owner.specs.Decided.{AreDecided, HasWritten, IsEntryOf, with_command}
-use Rattle.mum_owner.specs.Facts.{ScribeFacts}
-use Rattle.mum_owner.specs.Serving.{EmptiesFor}
-use Rattle.mum_owner.specs.declared.entry.Draft.{Draft}
-use Rattle.mum_owner.specs.Written.{entries_by, own_frame, prepared, recorded, version_of}
+use Rattle.mum_owner.proofs.Common.{◌≡◌, ◌∙◌, ℕ, ◌+◌, Bool, true, false, List, [], ◌∷◌, ◌++◌, append_assoc, append-nil, length, Option, Some, None, Result, Ok, Err, OnOk, is_err, refl, sym, ap, subst, inl, inr, SessionId, Slot, Mark, Commanded, Decides, current, next_revision, with_accepted, ControlFacts, slot_of, EmptiesPost, PostsNext, Posted, Notice, all_published, appended, state_of, NoteFacts, Opening, PublisherFacts, ReplyFacts, ControlEntry, mark, edits_of, verdict, Command, Edit, Verdict, Accepted, Lacks, Refused, Rejected, Answer, Ignored, AreDecided, HasWritten, IsEntryOf, with_command, ScribeFacts, EmptiesFor, Draft, entries_by, own_frame, prepared, recorded, version_of}
+use Rattle.mum_control.specs.Commanded.{Publishes}
 
--- one entry more, behind those that were decided
+-- one entry more, after those that were decided
 decided_more : (opening : Opening) (edits : List Edit) (entries : List ControlEntry) (all : List Edit) (command : Command) (entry : ControlEntry)
     → AreDecided opening edits entries all → IsEntryOf (state_of opening all) (length all + 1) command entry
     → AreDecided opening edits (entries ++ entry ∷ []) (with_command opening all command)

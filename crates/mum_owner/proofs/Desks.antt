@@ -1,23 +1,8 @@
 -- What was taken from the desk, logins that wait, and what was posted.
-use Rattle.std.proofs.Common.{◌≡◌, ◌∙◌, ℕ, Bool, true, false, cond, List, [], ◌∷◌, ◌++◌, length, Option, Some, None, ap, subst, sym}
-use Rattle.std.specs.Prelude.{◌==◌, IsTrue, MatchBool, is_none, is_some}
-use Rattle.std.specs.List.{AllByRecursion}
-use Rattle.std.specs.Option.{option_map}
-use Rattle.mum_control.specs.Facts.{ControlFacts}
-use Rattle.mum_control.specs.Posting.{PostsNext}
-use Rattle.mum_control.specs.declared.posted.Posted.{Posted}
-use Rattle.mum_outbox.specs.Calls.{Takes}
-use Rattle.mum_outbox.specs.declared.parcel.TheConstants.{DESK_CAPACITY}
-use Rattle.mum_port.specs.Asked.{WasAsked}
-use Rattle.mum_port.specs.declared.item.DeskItem.{DeskItem}
+use Rattle.mum_owner.proofs.Common.{◌≡◌, ◌∙◌, ℕ, Bool, true, false, cond, List, [], ◌∷◌, ◌++◌, length, Option, Some, None, ap, subst, sym, ◌==◌, IsTrue, MatchBool, is_none, is_some, AllByRecursion, option_map, ControlFacts, PostsNext, due_notices, Posted, Takes, DESK_CAPACITY, WasAsked, DeskItem, Command, DeskFacts, OwnerFacts, ReceivesItem, Rests, TakesItem, WasAskedIn, blocker, may_go, with_pass, PostsNotice, PostsOne, has_posted, lag_at, with_lag, Guest}
 use Rattle.mum_port.specs.declared.item.DeskItem.TheVariants as items
-use Rattle.mum_session.specs.declared.command.Command.{Command}
-use Rattle.mum_owner.specs.Facts.{DeskFacts, OwnerFacts}
-use Rattle.mum_owner.specs.Serving.{ReceivesItem, Rests, TakesItem, WasAskedIn, blocker, may_go, with_pass}
-use Rattle.mum_owner.specs.Turned.{PostsNotice, PostsOne, has_posted, lag_at, with_lag}
-use Rattle.mum_owner.specs.declared.guests.Guest.{Guest}
 
--- one more behind
+-- one more after
 pub all_more : {X : Type 0} (P : X → Type 0) (xs : List X) (x : X) → AllByRecursion P xs → P x → AllByRecursion P (xs ++ x ∷ [])
 all_more {X} P [] x all last = (last, tt)
 all_more {X} P (first ∷ xs) x all last = (all.0, all_more P xs x all.1 last)
@@ -57,13 +42,13 @@ module _ {D L : Type 0} where
       cc
 
   pub posted_one : (old before : OwnerFacts D L) (answer : Posted) (after : ControlFacts) (worked : Bool) (new : OwnerFacts D L) → before ≡ old
-      → is_some before.kept.lag ≡ false → PostsNext before.control before.control.pending answer after → worked ≡ has_posted answer
+      → is_some before.kept.lag ≡ false → PostsNext before.control (due_notices before.control) answer after → worked ≡ has_posted answer
       → new ≡ with_lag (lag_at answer before.guests.rows) (record before { control = after }) → PostsNotice old worked new
   posted_one old before answer after worked new is none posts so others =
       let here : PostsOne old worked new = record {
         answer = answer;
         after = after;
-        posts = subst (λ (o : OwnerFacts D L). PostsNext o.control o.control.pending answer after) is posts;
+        posts = subst (λ (o : OwnerFacts D L). PostsNext o.control (due_notices o.control) answer after) is posts;
         so = so;
         others = others ∙ ap (λ (o : OwnerFacts D L). with_lag (lag_at answer o.guests.rows) (record o { control = after })) is;
       } in

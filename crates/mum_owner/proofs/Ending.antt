@@ -1,43 +1,8 @@
--- That no note comes any more is put once, behind all notes.
-use Rattle.std.proofs.Common.{◌≡◌, ◌∙◌, ℕ, ◌+◌, Bool, true, false, cond, List, [], ◌∷◌, ◌++◌, length, map, Option, Some, None, refl, ap, sym, subst, inl, inr}
-use Rattle.std.specs.Prelude.{◌==◌, ◌&&◌, ◌||◌, not, filter, is_none, is_some, nat_le, nat_lt, IfSome, IsTrue, MatchBool, MatchOption}
-use Rattle.std.specs.List.{list_any}
-use Rattle.std.specs.Option.{option_map}
-use Rattle.std.proofs.lemmas.Bool.{and_from, and_parts, eqb-true, or_right}
-use Rattle.std.proofs.lemmas.List.{nil_from_length}
-use Rattle.mum_outbox.specs.Facts.{QueueId}
-use Rattle.mum_base.specs.declared.number.TheConstants.{CONNECTION_LIMIT}
-use Rattle.mum_bans.specs.Book.{Book}
-use Rattle.mum_control.specs.Commanded.{note_of}
-use Rattle.mum_control.specs.Facts.{ControlFacts}
-use Rattle.mum_control.specs.Posting.{PostsNext}
-use Rattle.mum_control.specs.declared.posted.Posted.{Posted}
-use Rattle.mum_crew.specs.Turns.{TurnsTo}
-use Rattle.mum_crew.specs.declared.role.Turn.{Turn}
-use Rattle.mum_io.specs.Door.{DoorFacts}
-use Rattle.mum_io.specs.Link.{LinkFacts}
-use Rattle.mum_keeper.specs.Archive.{ArchiveFacts, OffersNote, OffersRing, TellsStore, new_archive, with_full, with_put}
-use Rattle.mum_keeper.specs.Bell.{NoMore, Noted, Ring}
-use Rattle.mum_notify.specs.declared.notice.Notice.{Notice}
-use Rattle.mum_port.specs.declared.item.DeskItem.{DeskItem}
+-- That no note comes any more is put once, after all notes.
+use Rattle.mum_owner.proofs.Common.{◌≡◌, ◌∙◌, ℕ, ◌+◌, Bool, true, false, cond, List, [], ◌∷◌, ◌++◌, length, map, Option, Some, None, refl, ap, sym, subst, inl, inr, ◌==◌, ◌&&◌, ◌||◌, not, filter, is_none, is_some, nat_le, nat_lt, IfSome, IsTrue, MatchBool, MatchOption, list_any, option_map, and_from, and_parts, eqb-true, or_right, nil_from_length, QueueId, CONNECTION_LIMIT, Book, note_of, ControlFacts, PostsNext, due_notices, Posted, TurnsTo, Turn, DoorFacts, LinkFacts, ArchiveFacts, OffersNote, OffersRing, TellsStore, new_archive, Noted, Ring, Notice, DeskItem, NoteFacts, ReplyFacts, Edit, sent, WardenFacts, verdict_in, IsGivenOrRefused, ListComesTo, book_after, has_note, list_reply, GuestsFacts, OwnerFacts, roll_of, is_not_of, is_of, lag_noted, owned, AreNotes, EndsOnce, IsOpened, Receives, ReceivesItem, Rests, Serves, ServesDesk, may_go, next_by, with_pass, Archives, ArchivesBy, Asks, OwnerTurned, PostsOne, Publishes, is_not_to_ask, is_over, is_through, lag_at, makes_note, pressing, with_lag, PENDING_LIMIT, Guest, Lag}
+use Rattle.mum_keeper.specs.{Archive.with_full, Archive.with_put, Bell.NoMore}
+use Rattle.mum_owner.proofs.{Noting.before_store, Noting.behind_store, Steps.DeskStays, Steps.desk_stays}
 use Rattle.mum_port.specs.declared.item.DeskItem.TheVariants as items
-use Rattle.mum_published.specs.Facts.{NoteFacts, ReplyFacts}
-use Rattle.mum_state.specs.declared.edit.Edit.{Edit}
-use Rattle.mum_warden.specs.Answer.{sent}
-use Rattle.mum_warden.specs.Warden.{WardenFacts, verdict_in}
-use Rattle.mum_owner.specs.Banning.{IsGivenOrRefused, ListComesTo, book_after, has_note, list_reply}
-use Rattle.mum_owner.specs.Facts.{GuestsFacts, OwnerFacts}
-use Rattle.mum_owner.specs.Given.{roll_of}
-use Rattle.mum_owner.specs.Guests.{is_not_of, is_of, lag_noted, owned}
-use Rattle.mum_owner.specs.Noting.{AreNotes, EndsOnce}
-use Rattle.mum_owner.specs.Opened.{IsOpened}
-use Rattle.mum_owner.specs.Serving.{Receives, ReceivesItem, Rests, Serves, ServesDesk, may_go, next_by, with_pass}
-use Rattle.mum_owner.specs.Turned.{Archives, ArchivesBy, Asks, OwnerTurned, PostsOne, Publishes, is_not_to_ask, is_over, is_through, lag_at, makes_note, pressing, with_lag}
-use Rattle.mum_owner.specs.declared.desk.TheConstants.{PENDING_LIMIT}
-use Rattle.mum_owner.specs.declared.guests.Guest.{Guest}
-use Rattle.mum_owner.specs.declared.kept.Lag.{Lag}
-use Rattle.mum_owner.proofs.Noting.{before_store, behind_store}
-use Rattle.mum_owner.proofs.Steps.{DeskStays, desk_stays}
 
 -- ---- what was put
 
@@ -69,7 +34,7 @@ second_of a b c so = or_right a (b || c) (ap (λ (x : Bool). x || c) so)
 
 -- ---- notices
 
-posted_publisher : (control : ControlFacts) (pending : List Notice) (answer : Posted) (after : ControlFacts) → PostsNext control pending answer after → after.publisher ≡ control.publisher
+pub posted_publisher : (control : ControlFacts) (pending : List Notice) (answer : Posted) (after : ControlFacts) → PostsNext control pending answer after → after.publisher ≡ control.publisher
 posted_publisher control [] answer after posts = ap (λ (c : ControlFacts). c.publisher) posts.1
 posted_publisher control (notice ∷ rest) answer after posts = ap (λ (c : ControlFacts). c.publisher) posts.others
 
@@ -246,7 +211,7 @@ module _ {D L : Type 0} where
   posted_through : (b : Bool) (old : OwnerFacts D L) (worked : Bool) (new : OwnerFacts D L) → IsThrough old → MatchBool b (Rests old worked new) (PostsOne old worked new) → IsThrough new
   posted_through true old worked new through rests = through_as old new rests.1 through
   posted_through false old worked new through posts =
-      let same : posts.after.publisher ≡ old.control.publisher = posted_publisher old.control old.control.pending posts.answer posts.after posts.posts in
+      let same : posts.after.publisher ≡ old.control.publisher = posted_publisher old.control (due_notices old.control) posts.answer posts.after posts.posts in
       let mid : IsThrough (record old { control = posts.after }) = record {
         over = through.over;
         rows = through.rows;
@@ -261,7 +226,7 @@ module _ {D L : Type 0} where
 
   -- ---- the bell of the store
 
-  -- it got notes, and that none comes any more once, behind all of them, where nothing is to come that could give one
+  -- it got notes, and that none comes any more once, after all of them, where nothing is to come that could give one
   pub record IsTold (side : ArchiveFacts) (owner : OwnerFacts D L) : Type 0 where
     pub ends : EndsOnce side
     pub through : side.is_told ≡ true → IsThrough owner
@@ -280,7 +245,7 @@ module _ {D L : Type 0} where
   some_told : (side : ArchiveFacts) (owner : OwnerFacts D L) → owner.archive ≡ Some side → IsTold side owner → HasTold owner
   some_told side owner is told = subst (λ (a : Option ArchiveFacts). IfSome a (λ side. IsTold side owner)) (sym is) told
 
-  -- the end is put behind notes
+  -- the end is put after notes
   ended_told : (took : Bool) (side after : ArchiveFacts) (owner : OwnerFacts D L) → IsOpen side → IsThrough owner
       → MatchBool took (after ≡ record (with_put NoMore side) { is_told = true }) (after ≡ with_full side) → IsTold after owner
   ended_told true side after owner open_so through is = record {

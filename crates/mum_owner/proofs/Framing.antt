@@ -1,19 +1,6 @@
 -- What can be written of a command as a line of a journal.
-use Rattle.std.proofs.Common.{◌≡◌, ◌∙◌, ℕ, ◌<◌, ◌≤◌, ◌^◌, List, [], length, Option, Some, None, ap, arith, refl, subst, sym}
-use Rattle.std.specs.Prelude.{IfSome, IsTrue}
-use Rattle.std.proofs.lemmas.Bool.{eq-eqb}
-use Rattle.std.proofs.lemmas.List.{append-nil}
-use Rattle.mum_frame.specs.Frame.{IsOneFrame, kind_of, spelling_of}
-use Rattle.mum_frame.specs.declared.frame.TheConstants.{PAYLOAD_LIMIT}
-use Rattle.mum_frame.specs.declared.kind.TheConstants.{AUTHENTICATE}
-use Rattle.mum_frame.proofs.Headers.{kind-reads_back}
-use Rattle.mum_record.specs.Journal.{may_carry}
-use Rattle.mum_rules_user.specs.Asked.{payload_of}
-use Rattle.mum_rules_user.specs.declared.message.UserMessage.TheVariants.{Join, Kick, Leave, Query, Target, Text}
+use Rattle.mum_owner.proofs.Common.{◌≡◌, ◌∙◌, ℕ, ◌<◌, ◌≤◌, ◌^◌, List, [], length, Option, Some, None, ap, arith, refl, subst, sym, IfSome, IsTrue, eq-eqb, append-nil, IsOneFrame, kind_of, spelling_of, PAYLOAD_LIMIT, AUTHENTICATE, kind-reads_back, may_carry, payload_of, Join, Kick, Leave, Query, Target, Text, Asked, Tree, User, own_frame, version_of}
 use Rattle.mum_rules_user.specs.declared.message.UserMessage.TheVariants as about
-use Rattle.mum_session.specs.declared.command.Asked.{Asked}
-use Rattle.mum_session.specs.declared.command.Asked.TheVariants.{Tree, User}
-use Rattle.mum_owner.specs.Written.{own_frame, version_of}
 
 -- a type and a payload within the limit make one frame
 pub one_frame : (kind : ℕ) (payload bytes : List ℕ) → kind < 2 ^ 16 → length payload ≤ PAYLOAD_LIMIT → bytes ≡ spelling_of kind payload → IsOneFrame bytes

@@ -1,44 +1,8 @@
 -- Commands on their way from the desk to the control owner, over each part of a turn and over turns.
-use Rattle.std.proofs.Common.{◌≡◌, ◌∙◌, ◌⊎◌, ℕ, suc, Bool, true, false, cond, not, List, [], ◌∷◌, ◌++◌, length, map, Option, Some, None, refl, ap, sym, subst, inl, inr, arith, append_assoc}
-use Rattle.std.specs.Prelude.{◌==◌, ◌&&◌, filter, is_none, is_some, nat_lt, MatchOption, option_to_list}
-use Rattle.std.specs.List.{cons_option, filter_map}
-use Rattle.std.proofs.lemmas.Bool.{eqb-true}
-use Rattle.std.proofs.lemmas.List.{append-nil, map-append}
-use Rattle.std.proofs.lemmas.List.Elements.{filter-append, filter_map-append}
-use Rattle.mum_base.specs.declared.number.TheConstants.{CONNECTION_LIMIT}
-use Rattle.mum_control.specs.Facts.{ControlFacts}
-use Rattle.mum_crew.specs.Turns.{TurnsTo}
-use Rattle.mum_crew.specs.declared.role.Turn.{Turn}
-use Rattle.mum_io.specs.Door.{DoorFacts}
-use Rattle.mum_io.specs.Link.{LinkFacts}
-use Rattle.mum_outbox.specs.Calls.{Takes}
-use Rattle.mum_outbox.specs.Facts.{PassFacts, QueueId}
-use Rattle.mum_outbox.specs.declared.parcel.TheConstants.{DESK_CAPACITY}
-use Rattle.mum_port.specs.declared.item.DeskItem.{DeskItem}
-use Rattle.mum_port.specs.declared.item.DeskItem.TheVariants as items
-use Rattle.mum_rules_user.specs.declared.message.UserMessage.TheVariants.{Join, Kick, Leave, Query, Target, Text}
-use Rattle.mum_rules_user.specs.declared.message.UserMessage.TheVariants as about
-use Rattle.mum_session.specs.declared.command.Asked.{Asked}
-use Rattle.mum_session.specs.declared.command.Asked.TheVariants.{Tree, User}
-use Rattle.mum_session.specs.declared.command.Command.{Command}
-use Rattle.mum_base.specs.declared.number.SessionId.{SessionId}
-use Rattle.mum_published.specs.Facts.{ReplyFacts}
-use Rattle.mum_warden.specs.Answer.{sent}
-use Rattle.mum_warden.specs.Warden.{WardenFacts, verdict_in}
-use Rattle.mum_bans.specs.Book.{Book}
-use Rattle.mum_owner.specs.Facts.{DeskFacts, OwnerFacts}
-use Rattle.mum_owner.specs.Guests.{owned}
-use Rattle.mum_owner.specs.Laws.{Settled, command_in, commands_given, commands_owned, commands_settled, commands_taken, is_other, items_taken, leave_in, leave_where, leaves_decided, nothing, one_tested, settled, settled_by, settled_given, settled_item, settled_owned, settled_waiting}
-use Rattle.mum_owner.specs.Opened.{IsOpened}
-use Rattle.mum_owner.specs.Banning.{Answers, IsGivenOrRefused, ListComesTo, SettledBy, SettlesList, TestedBy, ban_reply, banned_in, book_after, is_banned, list_reply, with_warden}
-use Rattle.mum_owner.specs.Given.{IsGiven, roll_of}
-use Rattle.mum_owner.specs.Serving.{GivesWaiting, LeaveIsGiven, Next, Receives, ReceivesBy, ReceivesItem, Serves, ServesDesk, leave_after, may_go, must_wait, next, next_by, with_pass}
-use Rattle.mum_owner.specs.Serving.Next.{Again, Goes, Rest, Take}
-use Rattle.mum_owner.specs.Turned.{Asks, OwnerTurned, is_not_to_ask, is_over}
-use Rattle.mum_owner.specs.Written.{is_join, is_leave, is_login}
-use Rattle.mum_owner.specs.declared.desk.TheConstants.{PENDING_LIMIT}
-use Rattle.mum_owner.specs.declared.guests.Guest.{Guest}
+use Rattle.mum_owner.proofs.Common.{◌≡◌, ◌∙◌, ◌⊎◌, ℕ, suc, Bool, true, false, cond, not, List, [], ◌∷◌, ◌++◌, length, map, Option, Some, None, refl, ap, sym, subst, inl, inr, arith, append_assoc, ◌==◌, ◌&&◌, filter, is_none, is_some, nat_lt, MatchOption, option_to_list, cons_option, filter_map, eqb-true, append-nil, map-append, filter-append, filter_map-append, CONNECTION_LIMIT, ControlFacts, TurnsTo, Turn, DoorFacts, LinkFacts, Takes, PassFacts, QueueId, DESK_CAPACITY, DeskItem, Join, Kick, Leave, Query, Target, Text, Asked, Tree, User, Command, SessionId, ReplyFacts, sent, WardenFacts, verdict_in, Book, DeskFacts, OwnerFacts, owned, Settled, command_in, commands_given, commands_owned, commands_settled, commands_taken, is_other, items_taken, leave_in, leave_where, leaves_decided, nothing, one_tested, settled, settled_by, settled_given, settled_item, settled_owned, settled_waiting, IsOpened, Answers, IsGivenOrRefused, ListComesTo, SettledBy, SettlesList, TestedBy, ban_reply, banned_in, book_after, is_banned, list_reply, with_warden, IsGiven, roll_of, GivesWaiting, LeaveIsGiven, Next, Receives, ReceivesBy, ReceivesItem, Serves, ServesDesk, leave_after, may_go, must_wait, next, next_by, with_pass, Again, Goes, Rest, Take, Asks, OwnerTurned, is_not_to_ask, is_over, is_join, is_leave, is_login, PENDING_LIMIT, Guest}
 use Rattle.mum_owner.proofs.Steps.{LagStays, PublishStays, post_stays, press_stays, shown_stays}
+use Rattle.mum_port.specs.declared.item.DeskItem.TheVariants as items
+use Rattle.mum_rules_user.specs.declared.message.UserMessage.TheVariants as about
 
 -- each is a login
 abbrev pub AreLogins : List Command → Type 0
@@ -93,13 +57,13 @@ listed_so (Some x) = refl
 found_more : {X Y : Type 0} (f : X → Option Y) (xs : List X) (x : X) → filter_map f (xs ++ x ∷ []) ≡ filter_map f xs ++ option_to_list (f x)
 found_more f xs x = filter_map-append f xs (x ∷ []) ∙ ap (λ l. filter_map f xs ++ l) (listed_so (f x))
 
-items_more : (desk : DeskFacts) (item : DeskItem) (pass : PassFacts DeskItem) → Takes DESK_CAPACITY desk.pass (Some item) pass
+pub items_more : (desk : DeskFacts) (item : DeskItem) (pass : PassFacts DeskItem) → Takes DESK_CAPACITY desk.pass (Some item) pass
     → items_taken (record desk { pass = pass }) ≡ items_taken desk ++ item ∷ []
 items_more desk item pass takes =
     ap (λ (p : PassFacts DeskItem). items_taken (record desk { pass = p })) takes.2 ∙ map-append (λ tagged. tagged.item) desk.pass.taken (takes.0 ∷ [])
     ∙ ap (λ (i : DeskItem). items_taken desk ++ i ∷ []) takes.1
 
-items_same : (desk : DeskFacts) (pass : PassFacts DeskItem) → Takes DESK_CAPACITY desk.pass None pass → items_taken (record desk { pass = pass }) ≡ items_taken desk
+pub items_same : (desk : DeskFacts) (pass : PassFacts DeskItem) → Takes DESK_CAPACITY desk.pass None pass → items_taken (record desk { pass = pass }) ≡ items_taken desk
 items_same desk pass takes = ap (λ (p : PassFacts DeskItem). items_taken (record desk { pass = p })) takes.0
 
 -- ---- a leave
@@ -238,7 +202,7 @@ KeepsLeave (Again connection) leave = leave ≡ Some connection
 KeepsLeave Goes leave = Unit {0}
 KeepsLeave Take leave = leave ≡ None
 
-keeps_leave : (reply : Bool) (leave : Option ℕ) (many goes room : Bool) → KeepsLeave (next_by reply leave many goes room) leave
+pub keeps_leave : (reply : Bool) (leave : Option ℕ) (many goes room : Bool) → KeepsLeave (next_by reply leave many goes room) leave
 keeps_leave true leave many goes room = tt
 keeps_leave false (Some connection) many goes room = refl
 keeps_leave false None true goes room = tt
@@ -272,7 +236,7 @@ module _ {D L : Type 0} where
       )
   settled_desk false None old command new given = given_desk old command new given
 
-  command_desk : (old : OwnerFacts D L) (command : Command) (new : OwnerFacts D L) → IsGivenOrRefused old command new → (new.desk ≡ old.desk) × (new.logins ≡ old.logins)
+  pub command_desk : (old : OwnerFacts D L) (command : Command) (new : OwnerFacts D L) → IsGivenOrRefused old command new → (new.desk ≡ old.desk) × (new.logins ≡ old.logins)
   command_desk old command new given = settled_desk (is_login command) (banned_in command) old command new given
 
   settled_one : (login : Bool) (banned : Option SessionId) (old : OwnerFacts D L) (command : Command) (new : OwnerFacts D L) (given : SettledBy login banned old command new) (lay : Command)
@@ -285,7 +249,7 @@ module _ {D L : Type 0} where
   list_comes_desk warden old reply book new (inl both) = (ap (λ (o : OwnerFacts D L). o.desk) both.1, ap (λ (o : OwnerFacts D L). o.logins) both.1)
   list_comes_desk warden old reply book new (inr both) = (ap (λ (o : OwnerFacts D L). o.desk) both.1, ap (λ (o : OwnerFacts D L). o.logins) both.1)
 
-  list_desk : (old : OwnerFacts D L) (connection : ℕ) (session : SessionId) (payload : List ℕ) (new : OwnerFacts D L) → SettlesList old connection session payload new
+  pub list_desk : (old : OwnerFacts D L) (connection : ℕ) (session : SessionId) (payload : List ℕ) (new : OwnerFacts D L) → SettlesList old connection session payload new
       → (new.desk ≡ old.desk) × (new.logins ≡ old.logins)
   list_desk old connection session payload new settles =
       list_comes_desk settles.warden old (list_reply (roll_of old) connection (sent session (verdict_in old.warden.book settles.allowed payload)))
@@ -498,7 +462,7 @@ module _ {D L : Type 0} where
 
   -- ---- what was taken of the desk
 
-  pass_stays : (own : Option Command) (old new : OwnerFacts D L) → Receives old own new → items_taken new.desk ≡ items_taken old.desk
+  pub pass_stays : (own : Option Command) (old new : OwnerFacts D L) → Receives old own new → items_taken new.desk ≡ items_taken old.desk
   pass_stays None old new same = ap (λ (o : OwnerFacts D L). items_taken o.desk) same
   pass_stays (Some command) old new received = pass_by (is_leave command.what) (is_login command && must_wait old) old command new received
 
@@ -553,7 +517,7 @@ module _ {D L : Type 0} (door_facts : D → DoorFacts) (link_facts : L → LinkF
   asked_desk false old worked new asks = (ap (λ (o : OwnerFacts D L). o.desk) asks.others, ap (λ (o : OwnerFacts D L). o.logins) asks.others)
 
   -- what is served of the desk in a turn is all that a turn does with it
-  turned_desk : (old : OwnerFacts D L) (turn : Turn) (new : OwnerFacts D L) (t : OwnerTurned door_facts link_facts old turn new) → (new.desk ≡ t.after_desk.desk) × (new.logins ≡ t.after_desk.logins)
+  pub turned_desk : (old : OwnerFacts D L) (turn : Turn) (new : OwnerFacts D L) (t : OwnerTurned door_facts link_facts old turn new) → (new.desk ≡ t.after_desk.desk) × (new.logins ≡ t.after_desk.logins)
   turned_desk old turn new t =
       let press : LagStays t.after_desk t.after_press = press_stays t.after_desk t.pressed t.after_press t.presses in
       let publish : PublishStays t.after_press t.after_archive = shown_stays t.after_press t.published t.after_publish _ t.archived t.after_archive t.publishes t.archives in

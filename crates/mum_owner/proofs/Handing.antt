@@ -1,34 +1,8 @@
 -- Connections and replies on their way to the bells, over each part of a turn and over turns.
-use Rattle.std.proofs.Common.{◌≡◌, ◌∙◌, ℕ, zero, suc, ◌+◌, ◌<◌, Bool, true, false, cond, List, [], ◌∷◌, ◌++◌, length, map, Option, Some, None, refl, ap, sym, subst, add-one, append_assoc}
-use Rattle.std.specs.Prelude.{◌&&◌, ◌||◌, filter, is_none, is_some, not, option_to_list}
-use Rattle.std.specs.List.{filter_map}
-use Rattle.std.proofs.lemmas.List.{append-nil, map-append}
-use Rattle.std.proofs.lemmas.List.Elements.{filter-append}
-use Rattle.mum_outbox.specs.Facts.{QueueId}
-use Rattle.mum_control.specs.Facts.{ControlFacts}
-use Rattle.mum_published.specs.Facts.{ReplyFacts}
-use Rattle.mum_crew.specs.Turns.{TurnsTo}
-use Rattle.mum_crew.specs.declared.role.Turn.{Turn}
-use Rattle.mum_io.specs.Counts.{next_count}
-use Rattle.mum_io.specs.Door.{DoorFacts, given_after}
-use Rattle.mum_io.specs.Link.{LinkFacts}
-use Rattle.mum_io.specs.declared.door.Accept.{Accept}
+use Rattle.mum_owner.proofs.Common.{◌≡◌, ◌∙◌, ℕ, zero, suc, ◌+◌, ◌<◌, Bool, true, false, cond, List, [], ◌∷◌, ◌++◌, length, map, Option, Some, None, refl, ap, sym, subst, add-one, append_assoc, ◌&&◌, ◌||◌, filter, is_none, is_some, not, option_to_list, filter_map, append-nil, map-append, filter-append, QueueId, ControlFacts, ReplyFacts, TurnsTo, Turn, next_count, DoorFacts, given_after, LinkFacts, Accept, Rung, Comes, Lagging, SideFacts, new_side, given_after_all, DoorwayFacts, GuestsFacts, KeptFacts, OwnerFacts, has_room, answered, came_by, came_where, connections_given, handed, is_of_worker, made, numbers, puts_at, replies_made, IsOpened, ServesDesk, Asks, Offered, OwnerTurned, guests_by, is_not_to_ask, is_over, kept_by, Coming, Lag}
+use Rattle.mum_published.specs.Bell.Rung.{Answer}
+use Rattle.mum_owner.proofs.{Putting.many_offered, Putting.many_told, Putting.none_told, Putting.other_offered, Putting.own_offered, Steps.DeskStays, Steps.LagStays, Steps.PublishStays, Steps.desk_stays, Steps.post_stays, Steps.press_stays, Steps.reply_stays, Steps.shown_stays}
 use Rattle.mum_io.specs.declared.door.Accept.TheVariants as accepted
-use Rattle.mum_published.specs.Bell.{Rung}
-use Rattle.mum_published.specs.Bell.Rung.{Answer, Comes, Lagging}
-use Rattle.mum_owner.specs.Bell.{SideFacts, new_side}
-use Rattle.mum_doorway.specs.Doors.{given_after_all}
-use Rattle.mum_doorway.specs.Asking.{DoorwayFacts}
-use Rattle.mum_owner.specs.Facts.{GuestsFacts, KeptFacts, OwnerFacts}
-use Rattle.mum_owner.specs.Guests.{has_room}
-use Rattle.mum_owner.specs.Laws.{answered, came_by, came_where, connections_given, handed, is_of_worker, made, numbers, puts_at, replies_made}
-use Rattle.mum_owner.specs.Opened.{IsOpened}
-use Rattle.mum_owner.specs.Serving.{ServesDesk}
-use Rattle.mum_owner.specs.Turned.{Asks, Offered, OwnerTurned, guests_by, is_not_to_ask, is_over, kept_by}
-use Rattle.mum_owner.specs.declared.kept.Coming.{Coming}
-use Rattle.mum_owner.specs.declared.kept.Lag.{Lag}
-use Rattle.mum_owner.proofs.Putting.{many_offered, many_told, none_told, other_offered, own_offered}
-use Rattle.mum_owner.proofs.Steps.{DeskStays, LagStays, PublishStays, desk_stays, post_stays, press_stays, reply_stays, shown_stays}
 
 abbrev pub number_of : {L : Type 0} → Coming L → ℕ
 number_of coming = coming.connection
@@ -94,7 +68,7 @@ module _ {L : Type 0} where
   answered_so accepted.End place workers bells connection kept given none so = so ∙ ap (λ (l : List (Coming L)). filter (is_for place workers) l) (sym (append-nil given))
   answered_so accepted.Failed place workers bells connection kept given none so = so ∙ ap (λ (l : List (Coming L)). filter (is_for place workers) l) (sym (append-nil given))
 
-  -- it is numbered behind those that were given
+  -- it is numbered after those that were given
   numbered_so : (link_facts : L → LinkFacts) (answer : Accept L) (guests : GuestsFacts) (given : List (Coming L)) → map number_of given ≡ numbers guests.given
       → map number_of (given ++ came_by answer (guests.given + 1)) ≡ numbers (guests_by link_facts answer guests).given
   numbered_so link_facts (accepted.Conn link) guests given so =
@@ -135,7 +109,7 @@ module _ {L : Type 0} where
       ap (λ (o : Option ReplyFacts). replies_to place workers bells o) (stays reply refl) ∙ sym (append-nil (replies_to place workers bells (Some reply)))
 
 module _ {D L : Type 0} where
-  -- so many workers, the connections that were given, and these replies
+  -- n workers, the connections that were given, and these replies
   pub record Hands (place workers : ℕ) (owner : OwnerFacts D L) (given : List (Coming L)) (replies : List ReplyFacts) : Type 0 where
     pub many : length owner.bells ≡ workers
     pub connections : connections_to place workers owner.bells owner.kept.coming ≡ filter (is_for place workers) given
@@ -309,7 +283,7 @@ module _ {D L : Type 0} (door_facts : D → DoorFacts) (link_facts : L → LinkF
 
   -- ---- how many the door gave
 
-  -- up to the door, and behind it, the doorway and the number of those that were given stay
+  -- up to the door, and after it, the doorway and the number of those that were given stay
   before_door : (old : OwnerFacts D L) (turn : Turn) (new : OwnerFacts D L) (t : OwnerTurned door_facts link_facts old turn new)
       → (t.after_post.doorway ≡ old.doorway) × (t.after_post.guests.given ≡ old.guests.given)
   before_door old turn new t =
@@ -357,7 +331,7 @@ module _ {D L : Type 0} (door_facts : D → DoorFacts) (link_facts : L → LinkF
   numbered_from control door connections journal queues store opened owner turns new all =
       all_numbered opened turns owner all [] (ap (λ (o : OwnerFacts D L). numbers o.guests.given) (sym new))
 
-  -- as many are counted as the door gave, since it had given so many
+  -- as many are counted as the door gave, since it had given n
   abbrev IsCounted : ℕ → OwnerFacts D L → Type 0
   IsCounted before owner = (door_facts owner.doorway.door).given ≡ given_after_all before owner.guests.given
 

@@ -1,14 +1,6 @@
 -- For which connections a lag item was made, over the rows of open connections.
-use Rattle.std.proofs.Common.{◌≡◌, ◌∙◌, ℕ, ◌+◌, ◌≤◌, ◌⊎◌, Bool, true, false, cond, not, List, [], ◌∷◌, ◌++◌, map, Some, refl, ap, sym, subst, inl, inr, arith}
-use Rattle.std.specs.Prelude.{◌&&◌, ◌==◌, filter, find}
-use Rattle.std.proofs.lemmas.Bool.{eq-eqb}
-use Rattle.mum_base.specs.declared.number.SessionId.{SessionId}
-use Rattle.mum_base.specs.declared.number.Slot.{Slot}
-use Rattle.mum_base.specs.declared.reply.ReplyEnd.{ReplyEnd}
-use Rattle.mum_base.specs.declared.reply.ReplyEnd.TheVariants.{Joined, Decided, Rejected}
-use Rattle.mum_owner.specs.Facts.{GuestsFacts}
-use Rattle.mum_owner.specs.Guests.{has_session, is_not_of, is_of, joined_by, lag_noted, may_lag, new_guest, seated}
-use Rattle.mum_owner.specs.declared.guests.Guest.{Guest}
+use Rattle.mum_owner.proofs.Common.{◌≡◌, ◌∙◌, ℕ, ◌+◌, ◌≤◌, ◌⊎◌, Bool, true, false, cond, not, List, [], ◌∷◌, ◌++◌, map, Some, refl, ap, sym, subst, inl, inr, arith, ◌&&◌, ◌==◌, filter, find, eq-eqb, SessionId, Slot, ReplyEnd, Joined, Decided, GuestsFacts, has_session, is_not_of, is_of, joined_by, lag_noted, may_lag, new_guest, seated, Guest}
+use Rattle.mum_base.specs.declared.reply.ReplyEnd.TheVariants.{Rejected}
 
 -- one was made for each row of this connection
 abbrev pub AllLagged : ℕ → List Guest → Type 0

@@ -1,3 +1,5 @@
+mod Common
+pub mod Public
 mod Rows
 mod Telling
 mod Opening
@@ -19,3 +21,4 @@ mod Noting
 mod Ending
 mod Sitting
 pub mod Rolling
+mod Causing

@@ -1,43 +1,7 @@
 -- Each note that a turn gave has a further one.
-use Rattle.std.proofs.Common.{◌≡◌, ◌∙◌, ℕ, Bool, true, false, cond, List, [], ◌∷◌, ◌++◌, append-nil, Option, Some, None, ◌⊎◌, refl, ap, sym, subst, inl, inr}
-use Rattle.std.specs.Prelude.{◌&&◌, ◌||◌, not, is_some, length, nat_lt, IfSome, MatchBool, MatchOption, is_none}
-use Rattle.std.specs.List.{AllByRecursion, cons_option, filter_map}
-use Rattle.std.proofs.Math.Bool.{or-true}
-use Rattle.mum_base.specs.declared.number.SessionId.{SessionId}
-use Rattle.mum_base.specs.declared.number.TheConstants.{CONNECTION_LIMIT}
-use Rattle.mum_control.specs.Commanded.{Commanded, Decides, Publishes as ControlPublishes, current, note_of, with_accepted}
-use Rattle.mum_control.specs.Facts.{ControlFacts}
-use Rattle.mum_crew.specs.declared.role.Turn.{Turn}
-use Rattle.mum_io.specs.Door.{DoorFacts}
-use Rattle.mum_io.specs.Link.{LinkFacts}
-use Rattle.mum_keeper.specs.Archive.{ArchiveFacts, OffersNote}
-use Rattle.mum_port.specs.declared.item.DeskItem.{DeskItem}
+use Rattle.mum_owner.proofs.Common.{◌≡◌, ◌∙◌, ℕ, Bool, true, false, cond, List, [], ◌∷◌, ◌++◌, append-nil, Option, Some, None, ◌⊎◌, refl, ap, sym, subst, inl, inr, ◌&&◌, ◌||◌, not, is_some, length, nat_lt, IfSome, MatchBool, MatchOption, is_none, AllByRecursion, cons_option, filter_map, or-true, SessionId, CONNECTION_LIMIT, Commanded, Decides, ControlPublishes, current, note_of, with_accepted, ControlFacts, Turn, DoorFacts, LinkFacts, ArchiveFacts, OffersNote, DeskItem, all_published, appended, NoteFacts, PublisherFacts, ReplyFacts, verdict, Command, Edit, Verdict, Accepted, Lacks, Refused, Rejected, Answer, Ignored, WardenFacts, Book, sent, verdict_in, Answers, IsGivenOrRefused, ListComesTo, SettledBy, TestedBy, ban_reply, banned_in, book_after, has_note, is_banned, list_reply, with_warden, KeptFacts, OwnerFacts, ScribeFacts, IsGiven, roll_of, owned, session_of, made, HasFurther, note_in, notes_given, published_note, LeaveIsGiven, Next, Receives, ReceivesBy, ReceivesItem, Rests, Serves, ServesDesk, kept_after, leave_of, may_go, must_wait, next, with_pass, Again, Goes, Rest, Take, Archives, ArchivesBy, Asks, LacksNote, OffersFurther, OwnerTurned, PostsOne, Presses, Publishes, is_not_to_ask, is_over, is_through, lag_at, makes_note, pressing, with_lag, is_leave, is_login, PENDING_LIMIT, Lag}
+use Rattle.mum_owner.proofs.{Answering.AnswersNow, Answering.answers_now, Steps.desk_stays, Steps.press_stays}
 use Rattle.mum_port.specs.declared.item.DeskItem.TheVariants as items
-use Rattle.mum_published.specs.Calls.{all_published, appended}
-use Rattle.mum_published.specs.Facts.{NoteFacts, PublisherFacts, ReplyFacts}
-use Rattle.mum_session.specs.Verdict.{verdict}
-use Rattle.mum_session.specs.declared.command.Command.{Command}
-use Rattle.mum_state.specs.declared.edit.Edit.{Edit}
-use Rattle.mum_state.specs.declared.verdict.Verdict.{Verdict}
-use Rattle.mum_state.specs.declared.verdict.Verdict.TheVariants.{Accepted, Lacks, Refused, Rejected, Answer, Ignored}
-use Rattle.mum_warden.specs.Warden.{WardenFacts}
-use Rattle.mum_bans.specs.Book.{Book}
-use Rattle.mum_warden.specs.Answer.{sent}
-use Rattle.mum_warden.specs.Warden.{verdict_in}
-use Rattle.mum_owner.specs.Banning.{Answers, IsGivenOrRefused, ListComesTo, SettledBy, TestedBy, ban_reply, banned_in, book_after, has_note, is_banned, list_reply, with_warden}
-use Rattle.mum_owner.specs.Facts.{KeptFacts, OwnerFacts, ScribeFacts}
-use Rattle.mum_owner.specs.Given.{IsGiven, roll_of}
-use Rattle.mum_owner.specs.Guests.{owned, session_of}
-use Rattle.mum_owner.specs.Laws.{made}
-use Rattle.mum_owner.specs.Noting.{HasFurther, note_in, notes_given, published_note}
-use Rattle.mum_owner.specs.Serving.{LeaveIsGiven, Next, Receives, ReceivesBy, ReceivesItem, Rests, Serves, ServesDesk, kept_after, leave_of, may_go, must_wait, next, with_pass}
-use Rattle.mum_owner.specs.Serving.Next.{Again, Goes, Rest, Take}
-use Rattle.mum_owner.specs.Turned.{Archives, ArchivesBy, Asks, LacksNote, OffersFurther, OwnerTurned, PostsOne, Presses, Publishes, is_not_to_ask, is_over, is_through, lag_at, makes_note, pressing, with_lag}
-use Rattle.mum_owner.specs.Written.{is_leave, is_login}
-use Rattle.mum_owner.specs.declared.desk.TheConstants.{PENDING_LIMIT}
-use Rattle.mum_owner.specs.declared.kept.Lag.{Lag}
-use Rattle.mum_owner.proofs.Answering.{AnswersNow, answers_now}
-use Rattle.mum_owner.proofs.Steps.{desk_stays, press_stays}
 
 -- ---- notes of all that is published
 
@@ -214,9 +178,9 @@ module _ {D L : Type 0} where
       serves_shown (next old) old worked new serves
       (answers_now old.kept.reply old.desk.leave (nat_lt PENDING_LIMIT (length old.control.pending)) (may_go old) (nat_lt (length old.logins) CONNECTION_LIMIT))
 
-  -- ---- the parts behind the desk
+  -- ---- the parts after the desk
 
-  lag_control : (lag : Option Lag) (owner : OwnerFacts D L) → (with_lag lag owner).control ≡ owner.control
+  pub lag_control : (lag : Option Lag) (owner : OwnerFacts D L) → (with_lag lag owner).control ≡ owner.control
   lag_control None owner = refl
   lag_control (Some lag) owner = refl
 
@@ -307,7 +271,7 @@ module _ {D L : Type 0} (door_facts : D → DoorFacts) (link_facts : L → LinkF
   asked_store true old worked new rests = store_as old new rests.1
   asked_store false old worked new asks = record { archive = ap (λ (o : OwnerFacts D L). o.archive) asks.others; scribe = ap (λ (o : OwnerFacts D L). o.scribe) asks.others }
 
-  -- behind the part that is for the store
+  -- after the part that is for the store
   pub behind_store : (old : OwnerFacts D L) (turn : Turn) (new : OwnerFacts D L) (t : OwnerTurned door_facts link_facts old turn new) → StoreStays t.after_archive new
   behind_store old turn new t =
       let post = posted_store (is_some t.after_archive.kept.lag) t.after_archive t.posted t.after_post t.posts in
@@ -336,7 +300,7 @@ module _ {D L : Type 0} (door_facts : D → DoorFacts) (link_facts : L → LinkF
         (subst (λ (b : Bool). Archives b t.after_publish t.archived t.after_archive) noted t.archives) in
         further_of side note t.after_publish t.archived t.after_archive new kept is (behind_store old turn new t) archives
 
-    -- the note of all that is published is the same behind the desk and behind the publish
+    -- the note of all that is published is the same after the desk and after the publish
     same_note : note_of t.after_publish.control.publisher ≡ note_of t.after_desk.control.publisher
     same_note =
         note_stays t.after_press t.published t.after_publish t.publishes

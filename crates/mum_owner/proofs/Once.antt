@@ -1,25 +1,7 @@
 -- A connection lags once: what is kept of a lag item that was made, over each part of a turn and over turns.
-use Rattle.std.proofs.Common.{◌≡◌, ◌≢◌, ◌∙◌, ℕ, ◌≤◌, ◌⊎◌, Bool, true, false, cond, List, [], ◌∷◌, ◌++◌, Option, Some, None, refl, ap, sym, subst, inl, inr, arith, rules, append_assoc}
-use Rattle.std.specs.Prelude.{◌&&◌, All, is_none, option_to_list}
-use Rattle.std.specs.List.{AllPairs}
-use Rattle.std.proofs.lemmas.List.Elements.{All-append, All-cons}
-use Rattle.std.proofs.lemmas.List.Kept.{AllPairs-cons}
-use Rattle.mum_outbox.specs.Facts.{QueueId}
-use Rattle.mum_control.specs.Facts.{ControlFacts}
-use Rattle.mum_crew.specs.Turns.{TurnsTo}
-use Rattle.mum_crew.specs.declared.role.Turn.{Turn}
-use Rattle.mum_io.specs.declared.door.Accept.{Accept}
+use Rattle.mum_owner.proofs.Common.{◌≡◌, ◌≢◌, ◌∙◌, ℕ, ◌≤◌, ◌⊎◌, Bool, true, false, cond, List, [], ◌∷◌, ◌++◌, Option, Some, None, refl, ap, sym, subst, inl, inr, arith, rules, append_assoc, ◌&&◌, All, is_none, option_to_list, AllPairs, All-append, All-cons, AllPairs-cons, QueueId, ControlFacts, TurnsTo, Turn, Accept, DoorFacts, LinkFacts, GuestsFacts, OwnerFacts, lags_made, made, IsOpened, Asks, OwnerTurned, guests_by, is_not_to_ask, is_over, Guest, Lag}
+use Rattle.mum_owner.proofs.{Lagging.AllLagged, Lagging.AllWithin, Lagging.HasUnlagged, Lagging.RowsStay, Lagging.all_noted, Lagging.lagged_entered, Lagging.never_both, Lagging.rows_equal, Lagging.rows_noted, Lagging.unlagged_within, Lagging.within_entered, Steps.DeskStays, Steps.LagStays, Steps.MakesLag, Steps.MakesNone, Steps.PublishStays, Steps.desk_stays, Steps.post_stays, Steps.press_stays, Steps.shown_stays}
 use Rattle.mum_io.specs.declared.door.Accept.TheVariants as accepted
-use Rattle.mum_io.specs.Door.{DoorFacts}
-use Rattle.mum_io.specs.Link.{LinkFacts}
-use Rattle.mum_owner.specs.Facts.{GuestsFacts, OwnerFacts}
-use Rattle.mum_owner.specs.Laws.{lags_made, made}
-use Rattle.mum_owner.specs.Opened.{IsOpened}
-use Rattle.mum_owner.specs.Turned.{Asks, OwnerTurned, guests_by, is_not_to_ask, is_over}
-use Rattle.mum_owner.specs.declared.guests.Guest.{Guest}
-use Rattle.mum_owner.specs.declared.kept.Lag.{Lag}
-use Rattle.mum_owner.proofs.Lagging.{AllLagged, AllWithin, HasUnlagged, RowsStay, all_noted, lagged_entered, never_both, rows_equal, rows_noted, unlagged_within, within_entered}
-use Rattle.mum_owner.proofs.Steps.{DeskStays, LagStays, MakesLag, MakesNone, PublishStays, desk_stays, post_stays, press_stays, shown_stays}
 
 -- ---- the open connections
 
@@ -115,7 +97,7 @@ module _ {D L : Type 0} where
     was_given = subst (λ (n : ℕ). m.item.connection ≤ n) (sym same) (unlagged_within m.item.connection old.guests.given old.guests.rows were m.unlagged);
   }
 
-  -- one that is made is of another connection than those behind it
+  -- one that is made is of another connection than those after it
   apart : (old new : OwnerFacts D L) (rest : List Lag) → new.guests.given ≡ old.guests.given → WereGiven old.guests
       → ((connection : ℕ) → HasLagged connection new.guests → All (IsOther connection) rest) → AllPairs AreTwo rest → MakesLag old new ⊎ MakesNone old new
       → AllPairs AreTwo (made old.kept.lag new.kept.lag ++ rest)

@@ -1,15 +1,7 @@
 -- What an owner was opened with stays, over each part of a turn.
-use Rattle.std.proofs.Common.{◌≡◌, ◌∙◌, Bool, true, false, cond, refl, ap, sym, subst}
-use Rattle.std.specs.Prelude.{◌↔◌, ◌&&◌, IsTrue, is_none}
-use Rattle.mum_crew.specs.declared.role.Turn.{Turn}
-use Rattle.mum_crew.specs.declared.role.Turn.TheVariants.{Done}
-use Rattle.mum_io.specs.declared.door.Accept.{Accept}
-use Rattle.mum_io.specs.declared.door.Accept.TheVariants as accepted
-use Rattle.mum_io.specs.Door.{DoorFacts}
-use Rattle.mum_io.specs.Link.{LinkFacts}
-use Rattle.mum_owner.specs.Facts.{GuestsFacts, OwnerFacts}
-use Rattle.mum_owner.specs.Turned.{Asks, Offered, OwnerTurned, guests_by, has_ended, is_over, turn_of}
+use Rattle.mum_owner.proofs.Common.{◌≡◌, ◌∙◌, Bool, true, false, cond, refl, ap, sym, subst, ◌↔◌, ◌&&◌, IsTrue, is_none, Turn, Done, Accept, DoorFacts, LinkFacts, GuestsFacts, OwnerFacts, Asks, Offered, OwnerTurned, guests_by, has_ended, is_over, turn_of}
 use Rattle.mum_owner.proofs.Steps.{DeskStays, LagStays, PublishStays, desk_stays, post_stays, press_stays, shown_stays}
+use Rattle.mum_io.specs.declared.door.Accept.TheVariants as accepted
 
 -- ---- the outcome of a turn
 

@@ -1,19 +1,8 @@
 -- What the bell of one worker took, over each change of the bells.
-use Rattle.std.proofs.Common.{◌≡◌, ◌∙◌, ℕ, zero, suc, ◌<◌, Bool, true, false, cond, List, [], ◌∷◌, ◌++◌, length, Option, Some, None, refl, ap, sym, subst, arith}
-use Rattle.std.specs.Prelude.{◌==◌, filter, slice_get, MatchBool, option_to_list}
-use Rattle.std.specs.List.{cons_option, filter_map}
-use Rattle.std.proofs.lemmas.Bool.{eq-eqb, eqb-true}
-use Rattle.std.proofs.lemmas.List.{append-nil}
-use Rattle.std.proofs.lemmas.List.Elements.{filter_map-append}
-use Rattle.std.proofs.Math.Nat.{mod-lt}
-use Rattle.mum_published.specs.Bell.{Rung}
-use Rattle.mum_published.specs.Bell.Rung.{NoMore}
-use Rattle.mum_owner.specs.Bell.{SideFacts}
-use Rattle.mum_owner.specs.Laws.{is_of_worker, puts_at}
+use Rattle.mum_owner.proofs.Common.{◌≡◌, ◌∙◌, ℕ, zero, suc, ◌<◌, Bool, true, false, cond, List, [], ◌∷◌, ◌++◌, length, Option, Some, None, refl, ap, sym, subst, arith, ◌==◌, filter, slice_get, MatchBool, option_to_list, cons_option, filter_map, eq-eqb, eqb-true, append-nil, filter_map-append, mod-lt, Rung, SideFacts, is_of_worker, puts_at, OffersOne, TellsEach, at_worker, changed_at, with_found, worker_of, NoMore, with_full, with_put}
 use Rattle.mum_owner.proofs.Telling.{same_length}
-use Rattle.mum_owner.specs.Ringing.{OffersOne, TellsEach, at_worker, changed_at, with_found, with_full, with_put, worker_of}
 
-worker_within : (connection workers : ℕ) → 0 < workers → worker_of connection workers < workers
+pub worker_within : (connection workers : ℕ) → 0 < workers → worker_of connection workers < workers
 worker_within zero workers some = some
 worker_within (suc before) workers some = mod-lt before some
 
@@ -25,7 +14,7 @@ module _ {L : Type 0} where
   found_later x rest place change None = refl
   found_later x rest place change (Some side) = refl
 
-  changed_later : (x : SideFacts L) (rest : List (SideFacts L)) (place : ℕ) (change : SideFacts L → SideFacts L) → changed_at (suc place) change (x ∷ rest) ≡ x ∷ changed_at place change rest
+  pub changed_later : (x : SideFacts L) (rest : List (SideFacts L)) (place : ℕ) (change : SideFacts L → SideFacts L) → changed_at (suc place) change (x ∷ rest) ≡ x ∷ changed_at place change rest
   changed_later x rest place change = found_later x rest place change (slice_get rest place)
 
   length_changed : (place : ℕ) (change : SideFacts L → SideFacts L) (bells : List (SideFacts L)) → length (changed_at place change bells) ≡ length bells
@@ -34,7 +23,7 @@ module _ {L : Type 0} where
   length_changed (suc place) change (side ∷ bells) =
       ap (λ (l : List (SideFacts L)). length l) (changed_later side bells place change) ∙ ap suc (length_changed place change bells)
 
-  put_here : (place : ℕ) (item : Rung L) (bells : List (SideFacts L)) → place < length bells → puts_at place (changed_at place (with_put item) bells) ≡ puts_at place bells ++ item ∷ []
+  pub put_here : (place : ℕ) (item : Rung L) (bells : List (SideFacts L)) → place < length bells → puts_at place (changed_at place (with_put item) bells) ≡ puts_at place bells ++ item ∷ []
   put_here place item [] within = absurd (omega arith)
   put_here zero item (side ∷ bells) within = refl
   put_here (suc place) item (side ∷ bells) within =
@@ -49,7 +38,7 @@ module _ {L : Type 0} where
       ap (λ (l : List (SideFacts L)). puts_at (suc place) l) (changed_later side bells other change)
       ∙ changed_elsewhere place other change bells (λ same. apart (ap suc same))
 
-  full_anywhere : (place other : ℕ) (bells : List (SideFacts L)) → puts_at place (changed_at other with_full bells) ≡ puts_at place bells
+  pub full_anywhere : (place other : ℕ) (bells : List (SideFacts L)) → puts_at place (changed_at other with_full bells) ≡ puts_at place bells
   full_anywhere place other [] = refl
   full_anywhere zero zero (side ∷ bells) = refl
   full_anywhere zero (suc other) (side ∷ bells) = ap (λ (l : List (SideFacts L)). puts_at zero l) (changed_later side bells other with_full)
@@ -137,7 +126,7 @@ module _ {L : Type 0} where
     told_each zero (side ∷ bells) took (changed ∷ after) tells = told_by side.is_told side tells.0 changed tells.2
     told_each (suc place) (side ∷ bells) took (changed ∷ after) tells = told_each place bells tells.1 after tells.3
 
-    -- the bells were told that no more connections come, or were not
+    -- the bells were notified that no more connections come, or were not
     pub none_told : (ending : Bool) (place : ℕ) (bells : List (SideFacts L)) (took : Bool) (after : List (SideFacts L)) → MatchBool ending (TellsEach bells took after) ((took ≡ false) × (after ≡ bells)) → taken place after ≡ taken place bells
     none_told true place bells took after tells = told_each place bells took after tells
     none_told false place bells took after tells = ap (λ (l : List (SideFacts L)). taken place l) tells.1

@@ -1,56 +1,14 @@
 -- The roll of accepted logins is, in order, that of the replies that were made.
-use Rattle.std.proofs.Common.{◌≡◌, ◌∙◌, ℕ, Bool, true, false, cond, List, [], ◌∷◌, ◌++◌, append-nil, append_assoc, Option, Some, None, refl, ap, sym, subst, inl, inr}
-use Rattle.std.specs.Prelude.{◌&&◌, length, nat_lt, MatchBool, MatchOption, is_none, is_some, option_to_list}
-use Rattle.std.proofs.lemmas.List.Concat.{flat_map-append}
-use Rattle.mum_base.specs.declared.number.SessionId.{SessionId}
-use Rattle.mum_base.specs.declared.number.Slot.{Slot}
-use Rattle.mum_base.specs.declared.number.TheConstants.{CONNECTION_LIMIT}
-use Rattle.mum_base.specs.declared.reply.ReplyEnd.{ReplyEnd}
-use Rattle.mum_base.specs.declared.reply.ReplyEnd.TheVariants.{Joined, Decided, Rejected as RejectedEnd}
-use Rattle.mum_bans.specs.Book.{Book}
-use Rattle.mum_control.specs.Commanded.{Commanded, Decides, current, with_accepted}
-use Rattle.mum_control.specs.Facts.{ControlFacts}
-use Rattle.mum_control.specs.Kept.{slot_of}
-use Rattle.mum_control.specs.Posting.{EmptiesPost, PostsNext}
-use Rattle.mum_control.specs.declared.posted.Posted.{Posted}
-use Rattle.mum_control.proofs.Settling.{roll_left}
-use Rattle.mum_crew.specs.Turns.{TurnsTo}
-use Rattle.mum_crew.specs.declared.role.Turn.{Turn}
-use Rattle.mum_io.specs.Door.{DoorFacts}
-use Rattle.mum_io.specs.Link.{LinkFacts}
-use Rattle.mum_notify.specs.declared.notice.Notice.{Notice}
-use Rattle.mum_port.specs.declared.item.DeskItem.{DeskItem}
+use Rattle.mum_owner.proofs.Common.{◌≡◌, ◌∙◌, ℕ, Bool, true, false, cond, List, [], ◌∷◌, ◌++◌, append-nil, append_assoc, Option, Some, None, refl, ap, sym, subst, inl, inr, ◌&&◌, length, nat_lt, MatchBool, MatchOption, is_none, is_some, option_to_list, flat_map-append, SessionId, Slot, CONNECTION_LIMIT, ReplyEnd, Joined, Decided, RejectedEnd, Book, Commanded, Decides, current, with_accepted, ControlFacts, slot_of, EmptiesPost, PostsNext, due_notices, Posted, roll_left, TurnsTo, Turn, DoorFacts, LinkFacts, Notice, DeskItem, Login, ReplyFacts, login_of, verdict, Command, Verdict, Accepted, Lacks, Refused, Rejected, Answer, Ignored, sent, WardenFacts, verdict_in, Answers, IsGivenOrRefused, ListComesTo, SettledBy, TestedBy, ban_reply, banned_in, book_after, is_banned, list_reply, with_warden, KeptFacts, OwnerFacts, IsGiven, roll_of, owned, session_of, made, replies_made, EmptiesFor, LeaveIsGiven, Next, Receives, ReceivesBy, ReceivesItem, Rests, Serves, ServesDesk, kept_after, leave_of, may_go, must_wait, next, with_pass, Again, Goes, Rest, Take, login_in, logins_in, ArchivesBy, Asks, OwnerTurned, PostsOne, Presses, Publishes, is_not_to_ask, is_over, is_through, lag_at, pressing, with_lag, is_leave, is_login, PENDING_LIMIT, Lag}
+use Rattle.mum_owner.proofs.{Answering.AnswersNow, Answering.answers_now, Answering.commanded_to, Sitting.GivesNone, Sitting.leave_gives}
 use Rattle.mum_port.specs.declared.item.DeskItem.TheVariants as items
-use Rattle.mum_published.specs.declared.roll.Login.{Login}
-use Rattle.mum_published.specs.Facts.{ReplyFacts}
-use Rattle.mum_published.specs.Rolls.{login_of}
-use Rattle.mum_session.specs.Verdict.{verdict}
-use Rattle.mum_session.specs.declared.command.Command.{Command}
-use Rattle.mum_state.specs.declared.verdict.Verdict.{Verdict}
-use Rattle.mum_state.specs.declared.verdict.Verdict.TheVariants.{Accepted, Lacks, Refused, Rejected, Answer, Ignored}
-use Rattle.mum_warden.specs.Answer.{sent}
-use Rattle.mum_warden.specs.Warden.{WardenFacts, verdict_in}
-use Rattle.mum_owner.specs.Banning.{Answers, IsGivenOrRefused, ListComesTo, SettledBy, TestedBy, ban_reply, banned_in, book_after, is_banned, list_reply, with_warden}
-use Rattle.mum_owner.specs.Facts.{KeptFacts, OwnerFacts}
-use Rattle.mum_owner.specs.Given.{IsGiven, roll_of}
-use Rattle.mum_owner.specs.Guests.{owned, session_of}
-use Rattle.mum_owner.specs.Laws.{made, replies_made}
-use Rattle.mum_owner.specs.Serving.{EmptiesFor, LeaveIsGiven, Next, Receives, ReceivesBy, ReceivesItem, Rests, Serves, ServesDesk, kept_after, leave_of, may_go, must_wait, next, with_pass}
-use Rattle.mum_owner.specs.Serving.Next.{Again, Goes, Rest, Take}
-use Rattle.mum_owner.specs.Sessions.{login_in, logins_in}
-use Rattle.mum_owner.specs.Turned.{ArchivesBy, Asks, OwnerTurned, PostsOne, Presses, Publishes, is_not_to_ask, is_over, is_through, lag_at, pressing, with_lag}
-use Rattle.mum_owner.specs.Written.{is_leave, is_login}
-use Rattle.mum_owner.specs.declared.desk.TheConstants.{PENDING_LIMIT}
-use Rattle.mum_owner.specs.declared.kept.Lag.{Lag}
-use Rattle.mum_owner.proofs.Answering.{AnswersNow, answers_now, commanded_to}
-use Rattle.mum_owner.proofs.Sitting.{GivesNone, leave_gives}
 
 -- ---- a command
 
 abbrev control_roll : ControlFacts → List Login
 control_roll control = control.publisher.roll
 
--- a reply that tells of no login leaves the roll
+-- a reply that reports no login leaves the roll
 quiet_roll : (old new : ControlFacts) (reply : ReplyFacts) → login_in reply ≡ [] → control_roll new ≡ control_roll old
     → control_roll new ≡ control_roll old ++ logins_in (reply ∷ [])
 quiet_roll old new reply none same =
@@ -80,7 +38,7 @@ given_roll old command reply new (inl dropped) = denied_roll old new command.con
 given_roll old command reply new (inr decides) =
     decided_roll old command.connection command.session (verdict (current old) command.session command.what) reply new decides
 
--- which is the one that its reply tells of
+-- which is the one that its reply reports
 commanded_roll : (old : ControlFacts) (command : Command) (reply : ReplyFacts) (new : ControlFacts) → Commanded old command reply new
     → control_roll new ≡ control_roll old ++ logins_in (reply ∷ [])
 commanded_roll old command reply new given =
@@ -123,14 +81,14 @@ made_none None = refl
 made_none (Some reply) = refl
 
 module _ {D L : Type 0} where
-  -- the roll has these, and behind them the login of the reply that is kept
+  -- the roll has these, and after them the login of the reply that is kept
   abbrev Rolls : List Login → OwnerFacts D L → Type 0
   Rolls before owner = roll_of owner ≡ before ++ logins_in (option_to_list owner.kept.reply)
 
   rolls_as : (before : List Login) (mid new : OwnerFacts D L) → new ≡ mid → Rolls before mid → Rolls before new
   rolls_as before mid new is rolls = subst (λ (o : OwnerFacts D L). Rolls before o) (sym is) rolls
 
-  -- no reply is kept, or one that tells of no login
+  -- no reply is kept, or one that reports no login
   rolls_none : (old new : OwnerFacts D L) → roll_of new ≡ roll_of old → new.kept.reply ≡ old.kept.reply → old.kept.reply ≡ None → Rolls (roll_of old) new
   rolls_none old new roll same none =
       roll ∙ sym (append-nil (roll_of old)) ∙ ap (λ (r : Option ReplyFacts). roll_of old ++ logins_in (option_to_list r)) (sym (same ∙ none))
@@ -254,7 +212,7 @@ module _ {D L : Type 0} where
   posted_roll false old worked new posts =
       ap (λ (o : OwnerFacts D L). roll_of o) posts.others
       ∙ lag_roll (lag_at posts.answer old.guests.rows) (record old { control = posts.after })
-      ∙ notice_roll old.control old.control.pending posts.answer posts.after posts.posts
+      ∙ notice_roll old.control (due_notices old.control) posts.answer posts.after posts.posts
 
   ended_roll : (b : Bool) (owner : OwnerFacts D L) → roll_of (cond b (record owner { is_ending = true }) owner) ≡ roll_of owner
   ended_roll true owner = refl

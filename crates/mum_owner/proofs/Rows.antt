@@ -1,16 +1,5 @@
 -- The rows of open connections, over each change of them.
-use Rattle.std.proofs.Common.{◌≡◌, ◌∙◌, ℕ, zero, suc, ◌+◌, ◌<◌, ◌≤◌, Bool, true, false, cond, not, List, [], ◌∷◌, ◌++◌, length, map, take, drop, get_or, set, refl, ap, sym, subst, add-one, arith, length-append}
-use Rattle.std.specs.Prelude.{◌==◌, ◌||◌, ◌&&◌, IsTrue, Some, filter, nat_lt}
-use borrow.Author.Tests.{ltb-true}
-use Rattle.std.specs.List.{list_any}
-use Rattle.std.proofs.lemmas.Bool.{eqb-true, ne_eqb}
-use Rattle.std.proofs.lemmas.List.{length-map}
-use Rattle.mum_base.specs.declared.number.TheConstants.{CONNECTION_LIMIT}
-use Rattle.mum_base.specs.declared.number.SessionId.{SessionId}
-use Rattle.mum_base.specs.declared.number.Slot.{Slot}
-use Rattle.mum_owner.specs.Facts.{GuestsFacts}
-use Rattle.mum_owner.specs.Guests.{AreKept, RiseWithin, has_room, is_not_of, is_of, lag_noted, new_guest, seated}
-use Rattle.mum_owner.specs.declared.guests.Guest.{Guest}
+use Rattle.mum_owner.proofs.Common.{◌≡◌, ◌∙◌, ℕ, zero, suc, ◌+◌, ◌<◌, ◌≤◌, Bool, true, false, cond, not, List, [], ◌∷◌, ◌++◌, length, map, take, drop, get_or, set, refl, ap, sym, subst, add-one, arith, length-append, ◌==◌, ◌||◌, ◌&&◌, IsTrue, Some, filter, nat_lt, ltb-true, list_any, eqb-true, ne_eqb, length-map, CONNECTION_LIMIT, SessionId, Slot, GuestsFacts, AreKept, RiseWithin, has_room, is_not_of, is_of, lag_noted, new_guest, seated, Guest}
 
 -- one more element is changed
 set-mapped : {X : Type 0} (f : X → X) (xs : List X) (i : ℕ) (d : X) → i < length xs

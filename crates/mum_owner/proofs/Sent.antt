@@ -1,38 +1,11 @@
 -- The journal has a command as a frame of the type that was sent.
-use Rattle.std.proofs.Common.{◌≡◌, ◌==◌, ◌&&◌, ◌||◌, ◌<◌, ◌^◌, ℕ, Bool, true, false, List, [], ◌∷◌, Option, Some, None, ap, arith, refl, subst, sym}
-use Rattle.std.specs.Prelude.{Err, Ok, if◌then◌else◌}
-use Rattle.std.specs.List.{list_any}
-use Rattle.std.specs.Option.{option_map}
-use Rattle.std.proofs.lemmas.Bool.{eqb-true}
-use Rattle.mum_base.specs.declared.number.SessionId.{SessionId}
-use Rattle.mum_fields.specs.Table.{decoded}
-use Rattle.mum_frame.specs.Frame.{spelling_of}
-use Rattle.mum_frame.specs.declared.kind.TheConstants.{ACL, AUTHENTICATE, CHANNEL_REMOVE, CHANNEL_STATE, PERMISSION_QUERY, PING, TEXT_MESSAGE, UDP_TUNNEL, USER_REMOVE, USER_STATE, VERSION, VOICE_TARGET}
-use Rattle.mum_msg_rule.specs.Messages.{acl, permission_query, text_message, voice_target}
-use Rattle.mum_msg_rule.specs.Parts.{acl_of, permission_query_of, text_message_of, voice_target_of}
-use Rattle.mum_msg_state.specs.Messages.{authenticate, channel_remove, channel_state, ping, user_remove, user_state, version}
-use Rattle.mum_msg_state.specs.Parts.{authenticate_of, channel_remove_of, channel_state_of, user_remove_of, user_state_of}
-use Rattle.mum_record.specs.Journal.{Each}
+use Rattle.mum_owner.proofs.Common.{◌≡◌, ◌==◌, ◌&&◌, ◌||◌, ◌<◌, ◌^◌, ℕ, Bool, true, false, List, [], ◌∷◌, Option, Some, None, ap, arith, refl, subst, sym, Err, Ok, if◌then◌else◌, list_any, option_map, eqb-true, SessionId, decoded, spelling_of, ACL, AUTHENTICATE, CHANNEL_REMOVE, CHANNEL_STATE, PERMISSION_QUERY, PING, TEXT_MESSAGE, UDP_TUNNEL, USER_REMOVE, USER_STATE, VERSION, VOICE_TARGET, acl, permission_query, text_message, voice_target, acl_of, permission_query_of, text_message_of, voice_target_of, authenticate, channel_remove, channel_state, ping, user_remove, user_state, version, authenticate_of, channel_remove_of, channel_state_of, user_remove_of, user_state_of, Each, TreeMessage, UserMessage, NotRead, Decoded, action, after_login, command_action, commands_after_login, ignore, login_action, ping_action, tree_or_user_action, version_action, voice_action, command_heard, heard_map, read, Machine, is_rejected, Action, Ask, Bans, BAN_LIST, Asked, Tree, User, Command, Heard, Message, Malformed, TooLong, IsWrittenAs, tree_kind, user_kind, version_of, version_with}
+use Rattle.mum_session.specs.Machine.{session_of}
+use Rattle.mum_owner.proofs.Framing.{kind_of-spelling_of}
 use Rattle.mum_rules_tree.specs.Asked as tree
-use Rattle.mum_rules_tree.specs.declared.message.TreeMessage.{TreeMessage}
 use Rattle.mum_rules_tree.specs.declared.message.TreeMessage.TheVariants as channels
 use Rattle.mum_rules_user.specs.Asked as user
-use Rattle.mum_rules_user.specs.declared.message.UserMessage.{UserMessage}
 use Rattle.mum_rules_user.specs.declared.message.UserMessage.TheVariants as users
-use Rattle.mum_base.specs.declared.outcome.Reason.TheVariants.{NotRead}
-use Rattle.mum_session.specs.Action.{Decoded, action, after_login, command_action, commands_after_login, ignore, login_action, ping_action, tree_or_user_action, version_action, voice_action}
-use Rattle.mum_session.specs.Heard.{command_heard, heard_map, read}
-use Rattle.mum_session.specs.Machine.{Machine, is_rejected, session_of}
-use Rattle.mum_session.specs.declared.action.Action.{Action}
-use Rattle.mum_session.specs.declared.action.Action.TheVariants.{Ask, Bans}
-use Rattle.mum_session.specs.declared.action.TheConstants.{BAN_LIST}
-use Rattle.mum_session.specs.declared.command.Asked.{Asked}
-use Rattle.mum_session.specs.declared.command.Asked.TheVariants.{Tree, User}
-use Rattle.mum_session.specs.declared.command.Command.{Command}
-use Rattle.mum_session.specs.declared.heard.Heard.{Heard}
-use Rattle.mum_session.specs.declared.heard.Heard.TheVariants.{Message, Malformed, TooLong}
-use Rattle.mum_owner.specs.Written.{IsWrittenAs, tree_kind, user_kind, version_of, version_with}
-use Rattle.mum_owner.proofs.Framing.{kind_of-spelling_of}
 
 -- ---- one command
 

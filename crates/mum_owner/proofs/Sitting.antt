@@ -1,65 +1,9 @@
 -- The session that is kept for each open connection is that of its last accepted login.
-use Rattle.std.proofs.Common.{◌≡◌, ◌∙◌, ◌⊎◌, ℕ, ◌+◌, ◌<◌, ◌≤◌, Bool, true, false, cond, List, [], ◌∷◌, ◌++◌, append-nil, append_assoc, map, Option, Some, None, refl, ap, sym, subst, inl, inr, arith}
-use Rattle.std.specs.Prelude.{◌==◌, ◌&&◌, filter, find, is_none, length, nat_lt, MatchOption}
-use Rattle.std.specs.List.{AllByRecursion, list_any}
-use Rattle.std.specs.Option.{option_map, option_map_or}
-use Rattle.std.proofs.lemmas.Bool.{eqb-true, ne_eqb}
-use Rattle.std.proofs.lemmas.Grind.{fold-append}
-use Rattle.mum_outbox.specs.Facts.{QueueId}
-use Rattle.mum_base.specs.declared.number.SessionId.{SessionId}
-use Rattle.mum_base.specs.declared.number.Slot.{Slot}
-use Rattle.mum_base.specs.declared.number.TheConstants.{CONNECTION_LIMIT}
-use Rattle.mum_base.specs.Codes.{deny_code, reason_code}
-use Rattle.mum_base.specs.declared.outcome.DenyType.{DenyType}
-use Rattle.mum_base.specs.declared.outcome.Reason.{Reason}
-use Rattle.mum_base.specs.declared.reply.ReplyEnd.{ReplyEnd}
-use Rattle.mum_base.specs.declared.reply.ReplyEnd.TheVariants.{Joined, Decided, Rejected as RejectedEnd}
-use Rattle.mum_bans.specs.Book.{Book}
-use Rattle.mum_control.specs.Commanded.{Commanded, Decides, current}
-use Rattle.mum_control.specs.Facts.{ControlFacts}
-use Rattle.mum_crew.specs.Turns.{TurnsTo}
-use Rattle.mum_crew.specs.declared.role.Turn.{Turn}
-use Rattle.mum_io.specs.Door.{DoorFacts}
-use Rattle.mum_io.specs.Link.{LinkFacts}
-use Rattle.mum_io.specs.declared.door.Accept.{Accept}
+use Rattle.mum_owner.proofs.Common.{◌≡◌, ◌∙◌, ◌⊎◌, ℕ, ◌+◌, ◌<◌, ◌≤◌, Bool, true, false, cond, List, [], ◌∷◌, ◌++◌, append-nil, append_assoc, map, Option, Some, None, refl, ap, sym, subst, inl, inr, arith, ◌==◌, ◌&&◌, filter, find, is_none, length, nat_lt, MatchOption, AllByRecursion, list_any, option_map, option_map_or, eqb-true, ne_eqb, fold-append, QueueId, SessionId, Slot, CONNECTION_LIMIT, deny_code, reason_code, DenyType, Reason, ReplyEnd, Joined, Decided, RejectedEnd, Book, Commanded, Decides, current, ControlFacts, TurnsTo, Turn, DoorFacts, LinkFacts, Accept, DeskItem, ReplyFacts, first_lack, first_standing, unless_refused, Lack, command_of, limits, needs, reasons, actor_for, heard_verdict, Leave, reply_end, verdict, User, Command, StateValue, Verdict, Accepted, Lacks, Refused, Rejected, Answer, Ignored, sent, WardenFacts, verdict_in, Answers, IsGivenOrRefused, ListComesTo, SettledBy, TestedBy, ban_reply, banned_in, book_after, is_banned, list_reply, with_warden, GuestsFacts, KeptFacts, OwnerFacts, IsGiven, roll_of, is_not_of, is_of, joined_by, lag_noted, new_guest, owned, seated, session_of, made, replies_made, IsOpened, LeaveIsGiven, Next, Receives, ReceivesBy, ReceivesItem, Serves, ServesDesk, kept_after, leave_of, may_go, must_wait, next, with_pass, Again, Goes, Rest, Take, HasLastSession, last_session, session_after, session_by, Asks, OwnerTurned, guests_by, is_not_to_ask, is_over, is_leave, is_login, PENDING_LIMIT, Guest}
+use Rattle.mum_owner.proofs.{Answering.AnswersNow, Answering.answers_now, Answering.commanded_to, Answering.owned_connection, Lagging.AllWithin, Lagging.rows_joined, Lagging.rows_left, Lagging.rows_noted, Lagging.within_entered, Steps.LagStays, Steps.MakesLag, Steps.MakesNone, Steps.post_stays, Steps.press_stays, Steps.shown_stays}
 use Rattle.mum_io.specs.declared.door.Accept.TheVariants as accepted
-use Rattle.mum_port.specs.declared.item.DeskItem.{DeskItem}
 use Rattle.mum_port.specs.declared.item.DeskItem.TheVariants as items
-use Rattle.mum_published.specs.Facts.{ReplyFacts}
-use Rattle.mum_rules_tree.specs.Decision.{first_lack, first_standing, unless_refused}
-use Rattle.mum_rules_tree.specs.declared.needs.Lack.{Lack}
-use Rattle.mum_rules_user.specs.Asked.{command_of}
-use Rattle.mum_rules_user.specs.Limits.{limits}
-use Rattle.mum_rules_user.specs.Needs.{needs}
-use Rattle.mum_rules_user.specs.Reasons.{reasons}
-use Rattle.mum_rules_user.specs.Verdict.{actor_for, heard_verdict}
-use Rattle.mum_rules_user.specs.declared.message.UserMessage.TheVariants.{Leave}
-use Rattle.mum_session.specs.Reply.{reply_end}
-use Rattle.mum_session.specs.Verdict.{verdict}
-use Rattle.mum_session.specs.declared.command.Asked.TheVariants.{User}
-use Rattle.mum_session.specs.declared.command.Command.{Command}
-use Rattle.mum_state.specs.State.{StateValue}
 use Rattle.mum_state.specs.declared.edit.Edit.TheVariants as edits
-use Rattle.mum_state.specs.declared.verdict.Verdict.{Verdict}
-use Rattle.mum_state.specs.declared.verdict.Verdict.TheVariants.{Accepted, Lacks, Refused, Rejected, Answer, Ignored}
-use Rattle.mum_warden.specs.Answer.{sent}
-use Rattle.mum_warden.specs.Warden.{WardenFacts, verdict_in}
-use Rattle.mum_owner.specs.Banning.{Answers, IsGivenOrRefused, ListComesTo, SettledBy, TestedBy, ban_reply, banned_in, book_after, is_banned, list_reply, with_warden}
-use Rattle.mum_owner.specs.Facts.{GuestsFacts, KeptFacts, OwnerFacts}
-use Rattle.mum_owner.specs.Given.{IsGiven, roll_of}
-use Rattle.mum_owner.specs.Guests.{is_not_of, is_of, joined_by, lag_noted, new_guest, owned, seated, session_of}
-use Rattle.mum_owner.specs.Laws.{made, replies_made}
-use Rattle.mum_owner.specs.Opened.{IsOpened}
-use Rattle.mum_owner.specs.Serving.{LeaveIsGiven, Next, Receives, ReceivesBy, ReceivesItem, Serves, ServesDesk, kept_after, leave_of, may_go, must_wait, next, with_pass}
-use Rattle.mum_owner.specs.Serving.Next.{Again, Goes, Rest, Take}
-use Rattle.mum_owner.specs.Sessions.{HasLastSession, last_session, session_after, session_by}
-use Rattle.mum_owner.specs.Turned.{Asks, OwnerTurned, guests_by, is_not_to_ask, is_over}
-use Rattle.mum_owner.specs.Written.{is_leave, is_login}
-use Rattle.mum_owner.specs.declared.desk.TheConstants.{PENDING_LIMIT}
-use Rattle.mum_owner.specs.declared.guests.Guest.{Guest}
-use Rattle.mum_owner.proofs.Answering.{AnswersNow, answers_now, commanded_to, owned_connection}
-use Rattle.mum_owner.proofs.Lagging.{AllWithin, rows_joined, rows_left, rows_noted, within_entered}
-use Rattle.mum_owner.proofs.Steps.{LagStays, MakesLag, MakesNone, post_stays, press_stays, shown_stays}
 
 -- ---- replies that give no session
 

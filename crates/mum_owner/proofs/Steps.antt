@@ -1,38 +1,9 @@
 -- What each part of a turn leaves as it was.
-use Rattle.std.proofs.Common.{◌≡◌, ◌∙◌, ℕ, ◌+◌, ◌⊎◌, Bool, true, false, cond, List, map, Option, Some, None, refl, ap, sym, subst, inl, inr}
-use Rattle.std.specs.Prelude.{◌||◌, ◌==◌, filter, find, is_some, length, nat_lt, MatchBool, MatchOption}
-use Rattle.std.specs.List.{list_any}
-use Rattle.std.specs.Option.{option_and_then, option_map}
-use Rattle.mum_base.specs.declared.number.SessionId.{SessionId}
-use Rattle.mum_base.specs.declared.number.Slot.{Slot}
-use Rattle.mum_base.specs.declared.number.TheConstants.{CONNECTION_LIMIT}
-use Rattle.mum_base.specs.declared.reply.ReplyEnd.{ReplyEnd}
-use Rattle.mum_base.specs.declared.reply.ReplyEnd.TheVariants.{Joined, Decided, Rejected}
-use Rattle.mum_control.specs.Commanded.{current}
-use Rattle.mum_control.specs.Facts.{ControlFacts}
-use Rattle.mum_published.specs.Facts.{ReplyFacts}
-use Rattle.mum_control.specs.Kept.{next_slot}
-use Rattle.mum_control.specs.declared.posted.Posted.{Posted}
-use Rattle.mum_control.specs.declared.posted.Posted.TheVariants as posted
-use Rattle.mum_port.specs.declared.item.DeskItem.{DeskItem}
-use Rattle.mum_port.specs.declared.item.DeskItem.TheVariants as items
-use Rattle.mum_session.specs.declared.command.Command.{Command}
-use Rattle.mum_state.specs.State.{StateValue}
-use Rattle.mum_warden.specs.Answer.{sent}
-use Rattle.mum_warden.specs.Warden.{WardenFacts, verdict_in}
-use Rattle.mum_bans.specs.Book.{Book}
-use Rattle.mum_owner.specs.Facts.{GuestsFacts, KeptFacts, OwnerFacts}
-use Rattle.mum_owner.specs.Guests.{is_gone_from, is_not_of, is_of, joined_by, lag_for, lag_noted, lagging, may_lag, owned}
-use Rattle.mum_owner.specs.Banning.{Answers, IsGivenOrRefused, ListComesTo, SettledBy, SettlesList, TestedBy, ban_reply, banned_in, book_after, is_banned, list_reply, with_warden}
-use Rattle.mum_owner.specs.Given.{IsGiven, replied, roll_of, starved}
-use Rattle.mum_owner.specs.Serving.{GivesWaiting, LeaveIsGiven, Next, Receives, ReceivesBy, ReceivesItem, Rests, Serves, ServesDesk, TakesItem, blocker, kept_after, may_go, next, next_by}
-use Rattle.mum_owner.specs.Serving.Next.{Again, Goes, Rest, Take}
-use Rattle.mum_owner.specs.Written.{is_login}
-use Rattle.mum_owner.specs.Turned.{Archives, ArchivesBy, PostsNotice, PostsOne, Presses, Publishes, is_through, lag_at, pressing, with_lag}
-use Rattle.mum_owner.specs.declared.desk.TheConstants.{PENDING_LIMIT}
-use Rattle.mum_owner.specs.declared.guests.Guest.{Guest}
-use Rattle.mum_owner.specs.declared.kept.Lag.{Lag}
+use Rattle.mum_owner.proofs.Common.{◌≡◌, ◌∙◌, ℕ, ◌+◌, ◌⊎◌, Bool, true, false, cond, List, map, Option, Some, None, refl, ap, sym, subst, inl, inr, ◌||◌, ◌==◌, filter, find, is_some, length, nat_lt, MatchBool, MatchOption, list_any, option_and_then, option_map, SessionId, Slot, CONNECTION_LIMIT, ReplyEnd, Joined, Decided, current, ControlFacts, ReplyFacts, next_slot, Posted, DeskItem, Command, StateValue, sent, WardenFacts, verdict_in, Book, GuestsFacts, KeptFacts, OwnerFacts, is_gone_from, is_not_of, is_of, joined_by, lag_for, lag_noted, lagging, may_lag, owned, Answers, IsGivenOrRefused, ListComesTo, SettledBy, SettlesList, TestedBy, ban_reply, banned_in, book_after, is_banned, list_reply, with_warden, IsGiven, replied, roll_of, starved, GivesWaiting, LeaveIsGiven, Next, Receives, ReceivesBy, ReceivesItem, Rests, Serves, ServesDesk, TakesItem, blocker, kept_after, may_go, next, next_by, Again, Goes, Rest, Take, is_login, Archives, ArchivesBy, PostsNotice, PostsOne, Presses, Publishes, is_through, lag_at, pressing, with_lag, PENDING_LIMIT, Guest, Lag}
+use Rattle.mum_base.specs.declared.reply.ReplyEnd.TheVariants.{Rejected}
 use Rattle.mum_owner.proofs.Lagging.{HasUnlagged, RowsStay, found_lagging, found_unlagged, rows_joined, rows_left, rows_same}
+use Rattle.mum_control.specs.declared.posted.Posted.TheVariants as posted
+use Rattle.mum_port.specs.declared.item.DeskItem.TheVariants as items
 
 -- ---- the connections
 
@@ -88,7 +59,7 @@ found_connection (Some guest) session rows lag unlagged so =
     let own = of_guest false (Some session) guest.connection lag so in
     subst (λ (n : ℕ). HasUnlagged n rows) own.1 (unlagged guest refl)
 
-none_where : (waiting : Bool) (lag : Option Lag) → (waiting || is_some lag) ≡ false → lag ≡ None
+pub none_where : (waiting : Bool) (lag : Option Lag) → (waiting || is_some lag) ≡ false → lag ≡ None
 none_where true lag so = cc
 none_where false None so = refl
 none_where false (Some lag) so = cc
@@ -416,7 +387,7 @@ module _ {D L : Type 0} where
       publish_as old _ new ends.others (record { kept = refl; guests = refl; asked = refl; doorway = refl; bells = refl; desk = refl; logins = refl; warden = refl })
   archives_so true false false old worked new rests = publish_as old old new rests.1 (publish_same old)
 
-  -- publishing, and what is done for the store behind it
+  -- publishing, and what is done for the store after it
   pub shown_stays : (old : OwnerFacts D L) (published : Bool) (mid : OwnerFacts D L) (noted archived : Bool) (new : OwnerFacts D L) → Publishes old published mid
       → Archives noted mid archived new → PublishStays old new
   shown_stays old published mid noted archived new publishes archives =

@@ -1,9 +1,5 @@
--- Bells that are told one after the other.
-use Rattle.std.proofs.Common.{◌≡◌, ◌∙◌, ℕ, zero, suc, ◌+◌, ◌<◌, ◌≤◌, Bool, true, false, List, [], ◌∷◌, ◌++◌, length, take, drop, get_or, map, set, refl, ap, sym, subst, add-one, append_assoc, arith}
-use Rattle.std.specs.Prelude.{◌||◌}
-use Rattle.mum_outbox.specs.Facts.{QueueFacts}
-use Rattle.mum_owner.specs.Bell.{SideFacts, new_side, queues}
-use Rattle.mum_owner.specs.Ringing.{Tells, TellsEach}
+-- Bells that are notified one after the other.
+use Rattle.mum_owner.proofs.Common.{◌≡◌, ◌∙◌, ℕ, zero, suc, ◌+◌, ◌<◌, ◌≤◌, Bool, true, false, List, [], ◌∷◌, ◌++◌, length, take, drop, get_or, map, set, refl, ap, sym, subst, add-one, append_assoc, arith, ◌||◌, QueueFacts, SideFacts, new_side, queues, Tells, TellsEach}
 
 either_first : (a b c : Bool) → ((a || b) || c) ≡ (a || (b || c))
 either_first true b c = refl
@@ -18,7 +14,7 @@ no_bell_left [] none = refl
 no_bell_left (bell ∷ bells) none = absurd (omega (arith, none))
 
 module _ {L : Type 0} where
-  -- one more bell is told
+  -- one more bell is notified
   tells_more : (sides afters : List (SideFacts L)) (told one : Bool) (side after : SideFacts L) → TellsEach sides told afters → Tells side one after
       → TellsEach (sides ++ side ∷ []) (told || one) (afters ++ after ∷ [])
   tells_more [] [] told one side after none tells =
@@ -33,7 +29,7 @@ module _ {L : Type 0} where
   tells_more [] (changed ∷ afters) told one side after each tells = absurd each
   tells_more (first ∷ sides) [] told one side after each tells = absurd each
 
-  -- so far as this place they are told, and the others are as before
+  -- as far as this place they are notified, and the others are as before
   pub record ToldSoFar (sides : List (SideFacts L)) (place : ℕ) (told : Bool) (now : List (SideFacts L)) : Type 0 where
     pub afters : List (SideFacts L)
     pub tells : TellsEach (take place sides) told afters
@@ -91,7 +87,7 @@ module _ {L : Type 0} where
             ∙ append_one so_far.afters (drop (place + 1) sides) after;
       }
 
-  -- all of them are told
+  -- all of them are sent
   all_of : (sides : List (SideFacts L)) (place : ℕ) → length sides ≤ place → (take place sides ≡ sides) × (drop place sides ≡ [])
   all_of [] zero past = (refl, refl)
   all_of [] (suc place) past = (refl, refl)

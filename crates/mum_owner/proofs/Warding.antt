@@ -1,24 +1,5 @@
 -- Logins that were tested, removals with a ban, and lists of bans.
-use Rattle.std.proofs.Common.{◌≡◌, ◌∙◌, ℕ, Bool, List, Option, ap, subst, sym, inl, inr}
-use Rattle.std.specs.Prelude.{◌↔◌, IsTrue}
-use Rattle.mum_bans.specs.Ban.{refuses}
-use Rattle.mum_bans.specs.Book.{Book, Reserves, after_call}
-use Rattle.mum_bans.specs.declared.ban.Ban.{Ban}
-use Rattle.mum_base.specs.declared.number.SessionId.{SessionId}
-use Rattle.mum_base.specs.declared.number.TheConstants.ChannelId.{ROOT}
-use Rattle.mum_base.specs.declared.perm.TheConstants.Perm.{BAN}
-use Rattle.mum_control.specs.Commanded.{current}
-use Rattle.mum_control.specs.Kept.{MayIn}
-use Rattle.mum_io.specs.Counts.{Rose}
-use Rattle.mum_published.specs.Facts.{ReplyFacts}
-use Rattle.mum_session.specs.declared.command.Command.{Command}
-use Rattle.mum_warden.specs.Answer.{sent}
-use Rattle.mum_warden.specs.Warden.{WardenFacts, event_in, verdict_in}
-use Rattle.mum_owner.specs.Banning.{LacksRoom, ListComesTo, Removes, SettlesList, TestedBy, TestsLogin, book_after, is_banned, list_reply, reason_in, with_ban, with_warden}
-use Rattle.mum_owner.specs.Facts.{KeptFacts, OwnerFacts}
-use Rattle.mum_owner.specs.Given.{IsGiven, roll_of, starved, with_reply}
-use Rattle.mum_owner.specs.Guests.{address_of, guest_with}
-use Rattle.mum_owner.specs.declared.guests.Guest.{Guest}
+use Rattle.mum_owner.proofs.Common.{◌≡◌, ◌∙◌, ℕ, Bool, List, Option, ap, subst, sym, inl, inr, ◌↔◌, IsTrue, refuses, Book, Reserves, after_call, Ban, SessionId, ROOT, BAN, current, MayIn, Rose, ReplyFacts, Command, sent, WardenFacts, event_in, verdict_in, LacksRoom, ListComesTo, Removes, SettlesList, TestedBy, TestsLogin, book_after, is_banned, list_reply, reason_in, with_ban, with_warden, KeptFacts, OwnerFacts, IsGiven, roll_of, starved, with_reply, address_of, guest_with, Guest}
 
 same_book : (old new : Book) (bans : List Ban) → new.bans ≡ bans → new.reserved ≡ old.reserved → new ≡ record old { bans = bans }
 same_book old new bans is reserved =

@@ -1,30 +1,22 @@
 -- What an owner does with bans: who is refused, whose removal adds one, and what a list of bans comes to.
 use Rattle.std.specs.Prelude.{◌≡◌, ◌⊎◌, ◌↔◌, ℕ, Bool, true, false, IsTrue, List, [], is_some, unwrap_or, Option, Some, None, if◌then◌else◌}
 use Rattle.std.specs.Option.{option_map_or}
-use Rattle.mum_bans.specs.Ban.{refuses}
-use Rattle.mum_bans.specs.Book.{Book, Reserves, after_call}
-use Rattle.mum_base.specs.declared.number.SessionId.{SessionId}
-use Rattle.mum_base.specs.declared.number.TheConstants.ChannelId.{ROOT}
+use Rattle.mum_base.specs.declared.number.{SessionId.SessionId, TheConstants.ChannelId.ROOT}
 use Rattle.mum_base.specs.declared.perm.TheConstants.Perm.{BAN}
-use Rattle.mum_base.specs.declared.reply.ReplyEnd.TheVariants as ends
-use Rattle.mum_control.specs.Commanded.{current}
-use Rattle.mum_control.specs.Kept.{MayIn}
 use Rattle.mum_io.specs.Counts.{Rose}
+use Rattle.mum_bans.specs.{Ban.refuses, Book.Book, Book.Reserves, Book.after_call}
 use Rattle.mum_published.specs.declared.roll.Login.{Login}
 use Rattle.mum_published.specs.Facts.{ReplyFacts}
-use Rattle.mum_rules_user.specs.Asked.{session_numbered}
-use Rattle.mum_rules_user.specs.Needs.{is_ban}
+use Rattle.mum_rules_user.specs.{Asked.session_numbered, Needs.is_ban}
 use Rattle.mum_rules_user.specs.declared.message.UserMessage.TheVariants.{Kick}
-use Rattle.mum_session.specs.declared.command.Asked.{Asked}
-use Rattle.mum_session.specs.declared.command.Asked.TheVariants.{User}
-use Rattle.mum_session.specs.declared.command.Command.{Command}
+use Rattle.mum_session.specs.declared.command.{Asked.Asked, Asked.TheVariants.User, Command.Command}
 use Rattle.mum_warden.specs.Answer.{refusal as banned_frame, sent}
 use Rattle.mum_warden.specs.Warden.{WardenFacts, event_in, noted, verdict_in}
-use Rattle.mum_owner.specs.Facts.{OwnerFacts}
+use Rattle.mum_control.specs.{Commanded.current, Kept.MayIn}
+use Rattle.mum_owner.specs.{Facts.OwnerFacts, Guests.address_of, Guests.guest_with, Written.is_login}
 use Rattle.mum_owner.specs.Given.{IsGiven, replied, roll_of, starved}
-use Rattle.mum_owner.specs.Guests.{address_of, guest_with}
-use Rattle.mum_owner.specs.Written.{is_login}
 use Rattle.mum_owner.specs.declared.guests.Guest.{Guest}
+use Rattle.mum_base.specs.declared.reply.ReplyEnd.TheVariants as ends
 
 -- the clock was asked, and the bans are as they were
 pub record AsksClock (old new : WardenFacts) : Type 0 where
@@ -123,7 +115,8 @@ module _ {D L : Type 0} where
 
   -- there is room for the ban, which starts at the clock's answer; the command is given; and the ban is added where its
   -- reply has a note and whom it removes had an open connection before
-  pub record Removes (old : OwnerFacts D L) (banned : SessionId) (command : Command) (new : OwnerFacts D L) : Type 0 where
+  pub record Removes (old : OwnerFacts D L) (banned : SessionId) (command : Command)
+      (new : OwnerFacts D L) : Type 0 where
     pub warden : WardenFacts
     pub asked : Rose old.warden.calls warden.calls
     pub reserves : Reserves old.warden.book (reason_in command.what) warden.book
@@ -134,7 +127,8 @@ module _ {D L : Type 0} where
   -- ---- any command
 
   -- what becomes of a command: a login is tested, a removal with a ban needs room for the ban, all else is given
-  abbrev pub SettledBy : (login : Bool) → (banned : Option SessionId) → OwnerFacts D L → Command → OwnerFacts D L → Type 0
+  abbrev pub SettledBy : (login : Bool) → (banned : Option SessionId) → OwnerFacts D L → Command → OwnerFacts D L
+      → Type 0
   SettledBy true banned old command new = TestsLogin old command new
   SettledBy false (Some banned) old command new = LacksRoom old command.connection new ⊎ Removes old banned command new
   SettledBy false None old command new = IsGiven old command new
@@ -153,7 +147,8 @@ module _ {D L : Type 0} where
       ⊎ ((warden.book ≡ old.warden.book) × (new ≡ starved reply.connection (with_warden warden old)))
 
   -- the list is decided once, by whether its session has Ban on the root, and at the clock's answer
-  pub record SettlesList (old : OwnerFacts D L) (connection : ℕ) (session : SessionId) (payload : List ℕ) (new : OwnerFacts D L) : Type 0 where
+  pub record SettlesList (old : OwnerFacts D L) (connection : ℕ) (session : SessionId) (payload : List ℕ)
+      (new : OwnerFacts D L) : Type 0 where
     pub allowed : Bool
     pub may_ban : IsTrue allowed ↔ MayIn (current old.control) session BAN ROOT
     pub warden : WardenFacts

@@ -1,11 +1,10 @@
 -- What is put into the bell of a worker, as plain data.
 use Rattle.std.specs.Prelude.{ℕ, Bool, false, List, [], map, Option, Some, None}
 use Rattle.mum_outbox.specs.Facts.{PassFacts, QueueFacts, QueueId}
-use Rattle.mum_published.specs.Bell.{Rung, rung}
-use Rattle.mum_published.specs.Facts.{ReplyFacts}
+use Rattle.mum_published.specs.{Bell.Rung, Bell.rung, Facts.ReplyFacts}
 use Rattle.mum_published.specs.declared.bell.BellItem.{BellItem}
-use Rattle.mum_published.specs.declared.bell.BellItem.TheVariants as items
 use Rattle.mum_owner.specs.declared.kept.Coming.{Coming}
+use Rattle.mum_published.specs.declared.bell.BellItem.TheVariants as items
 
 -- the reply in an item, if it is one
 abbrev pub reply_in : {L N : Type 0} → BellItem L N → Option ReplyFacts
@@ -34,4 +33,5 @@ abbrev pub queues : List QueueFacts → List QueueId
 queues bells = map (λ (bell : QueueFacts). bell.queue) bells
 
 abbrev pub side_facts : {L N : Type 0} → PassFacts (BellItem L N) → Bool → SideFacts L
-side_facts pass is_told = record { queue = pass.queue; put = map rung pass.offered; full = pass.full; is_told = is_told }
+side_facts pass is_told =
+    record { queue = pass.queue; put = map rung pass.offered; full = pass.full; is_told = is_told }

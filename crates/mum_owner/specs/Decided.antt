@@ -1,16 +1,13 @@
 -- What the journal of an owner says of the commands that were decided.
 use Rattle.std.specs.Prelude.{◌≡◌, ℕ, ◌+◌, true, List, [], ◌∷◌, ◌++◌, length}
-use Rattle.mum_control.specs.Facts.{ControlFacts}
-use Rattle.mum_published.specs.Calls.{appended, state_of}
-use Rattle.mum_published.specs.Facts.{Opening}
 use Rattle.mum_record.specs.declared.journal.ControlEntry.{ControlEntry}
-use Rattle.mum_session.specs.Reply.{mark}
-use Rattle.mum_session.specs.Verdict.{edits_of, verdict}
-use Rattle.mum_session.specs.declared.command.Command.{Command}
 use Rattle.mum_state.specs.declared.edit.Edit.{Edit}
 use Rattle.mum_state.specs.State.{StateValue}
-use Rattle.mum_owner.specs.Facts.{ScribeFacts}
-use Rattle.mum_owner.specs.Written.{own_frame, version_of}
+use Rattle.mum_published.specs.{Calls.appended, Calls.state_of, Facts.Opening}
+use Rattle.mum_session.specs.{Reply.mark, Verdict.edits_of, Verdict.verdict}
+use Rattle.mum_session.specs.declared.command.Command.{Command}
+use Rattle.mum_control.specs.Facts.{ControlFacts}
+use Rattle.mum_owner.specs.{Facts.ScribeFacts, Written.own_frame, Written.version_of}
 
 -- the entry of a command: its connection, the version that a login reports, its own frame, and its outcome at a state,
 -- where an accepted edit gets this revision
@@ -20,11 +17,11 @@ pub record IsEntryOf (state : StateValue) (revision : ℕ) (command : Command) (
   pub frame : entry.frame ≡ own_frame command.what
   pub outcome : entry.verdict ≡ mark revision (verdict state command.session command.what)
 
--- these edits, and behind them what a command adds that is decided at the state to which they lead
+-- these edits, and after them what a command adds that is decided at the state to which they lead
 abbrev pub with_command : Opening → List Edit → Command → List Edit
 with_command opening edits command = edits ++ edits_of (verdict (state_of opening edits) command.session command.what)
 
--- the entries are of commands that were decided one after the other behind these edits, each at the state after all that
+-- the entries are of commands that were decided one after the other after these edits, each at the state after all that
 -- was accepted before it; all that is accepted then is known
 abbrev pub AreDecided : Opening → List Edit → List ControlEntry → List Edit → Type 0
 AreDecided opening edits [] all = all ≡ edits

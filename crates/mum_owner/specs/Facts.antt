@@ -1,19 +1,16 @@
 -- What contracts see of the parts of an owner, as plain data.
 use Rattle.std.specs.Prelude.{ℕ, Bool, List, Option}
-use Rattle.mum_control.specs.Facts.{ControlFacts}
-use Rattle.mum_doorway.specs.Asking.{DoorwayFacts}
-use Rattle.mum_keeper.specs.Archive.{ArchiveFacts}
 use Rattle.mum_outbox.specs.Facts.{PassFacts}
-use Rattle.mum_port.specs.declared.item.DeskItem.{DeskItem}
-use Rattle.mum_published.specs.Facts.{ReplyFacts}
 use Rattle.mum_record.specs.declared.journal.ControlEntry.{ControlEntry}
+use Rattle.mum_doorway.specs.Asking.{DoorwayFacts}
+use Rattle.mum_published.specs.Facts.{ReplyFacts}
 use Rattle.mum_session.specs.declared.command.Command.{Command}
 use Rattle.mum_warden.specs.Warden.{WardenFacts}
+use Rattle.mum_port.specs.declared.item.DeskItem.{DeskItem}
+use Rattle.mum_control.specs.Facts.{ControlFacts}
+use Rattle.mum_keeper.specs.Archive.{ArchiveFacts}
 use Rattle.mum_owner.specs.Bell.{SideFacts}
-use Rattle.mum_owner.specs.declared.guests.Guest.{Guest}
-use Rattle.mum_owner.specs.declared.kept.Coming.{Coming}
-use Rattle.mum_owner.specs.declared.kept.Lag.{Lag}
-use Rattle.mum_owner.specs.declared.entry.Draft.{Draft}
+use Rattle.mum_owner.specs.declared.{guests.Guest.Guest, kept.Coming.Coming, kept.Lag.Lag, entry.Draft.Draft}
 
 -- the open connections by their numbers, how many were given and have closed, and how many are given in all
 pub record GuestsFacts : Type 0 where

@@ -1,13 +1,12 @@
 -- What an owner does with a command that it gives to the control owner.
 use Rattle.std.specs.Prelude.{◌≡◌, ◌⊎◌, ℕ, true, List, [], Some, None}
-use Rattle.mum_base.specs.declared.reply.ReplyEnd.TheVariants as ends
-use Rattle.mum_control.specs.Commanded.{Commanded}
 use Rattle.mum_published.specs.declared.roll.Login.{Login}
 use Rattle.mum_published.specs.Facts.{ReplyFacts}
 use Rattle.mum_session.specs.declared.command.Command.{Command}
-use Rattle.mum_owner.specs.Facts.{KeptFacts, OwnerFacts, ScribeFacts}
-use Rattle.mum_owner.specs.Guests.{joined_by}
+use Rattle.mum_control.specs.Commanded.{Commanded}
+use Rattle.mum_owner.specs.{Facts.KeptFacts, Facts.OwnerFacts, Facts.ScribeFacts, Guests.joined_by}
 use Rattle.mum_owner.specs.Written.{prepared, recorded, refused}
+use Rattle.mum_base.specs.declared.reply.ReplyEnd.TheVariants as ends
 
 abbrev pub with_reply : {L : Type 0} → ReplyFacts → KeptFacts L → KeptFacts L
 with_reply reply kept = record kept { reply = Some reply }

@@ -1,18 +1,13 @@
 -- The connections that are open.
 use Rattle.std.specs.Prelude.{◌≡◌, ℕ, ◌+◌, ◌≤◌, ◌==◌, ◌&&◌, nat_lt, nat_le, not, Bool, true, false, List, [], ◌∷◌, ◌++◌, length, map, filter, find, replicate, Option, Some, None, if◌then◌else◌}
-use Rattle.std.specs.List.{list_any}
-use Rattle.std.specs.Option.{option_and_then, option_map, option_map_or}
-use Rattle.mum_base.specs.declared.number.SessionId.{SessionId}
-use Rattle.mum_base.specs.declared.number.Slot.{Slot}
-use Rattle.mum_base.specs.declared.number.TheConstants.{CONNECTION_LIMIT}
-use Rattle.mum_base.specs.declared.reply.ReplyEnd.{ReplyEnd}
-use Rattle.mum_base.specs.declared.reply.ReplyEnd.TheVariants.{Joined}
-use Rattle.mum_control.specs.Kept.{is_there}
-use Rattle.mum_session.specs.declared.command.Command.{Command}
+use Rattle.std.specs.{List.list_any, Option.option_and_then, Option.option_map, Option.option_map_or}
+use Rattle.mum_base.specs.declared.number.{SessionId.SessionId, Slot.Slot, TheConstants.CONNECTION_LIMIT}
+use Rattle.mum_base.specs.declared.reply.ReplyEnd.{ReplyEnd, TheVariants.Joined}
 use Rattle.mum_state.specs.State.{StateValue}
+use Rattle.mum_session.specs.declared.command.Command.{Command}
+use Rattle.mum_control.specs.Kept.{is_there}
 use Rattle.mum_owner.specs.Facts.{GuestsFacts}
-use Rattle.mum_owner.specs.declared.guests.Guest.{Guest}
-use Rattle.mum_owner.specs.declared.kept.Lag.{Lag}
+use Rattle.mum_owner.specs.declared.{guests.Guest.Guest, kept.Lag.Lag}
 
 abbrev pub is_of : ℕ → Guest → Bool
 is_of connection guest = guest.connection == connection
@@ -78,7 +73,8 @@ session_of connection rows = option_and_then (λ guest. guest.session) (find (is
 
 -- the command, for the session that is kept for its connection; none where that is not open
 abbrev pub owned : List Guest → Command → Option Command
-owned rows command = option_map (λ guest. record command { session = guest.session }) (find (is_of command.connection) rows)
+owned rows command =
+    option_map (λ guest. record command { session = guest.session }) (find (is_of command.connection) rows)
 
 -- a login of the connection was accepted
 abbrev pub seated : ℕ → SessionId → Slot → Guest → Guest
@@ -90,7 +86,8 @@ abbrev pub lag_noted : ℕ → Guest → Guest
 lag_noted connection guest = if is_of connection guest then record guest { lagged = true } else guest
 
 abbrev pub joined_by : ReplyEnd → ℕ → GuestsFacts → GuestsFacts
-joined_by (Joined session slot) connection guests = record guests { rows = map (seated connection session slot) guests.rows }
+joined_by (Joined session slot) connection guests =
+    record guests { rows = map (seated connection session slot) guests.rows }
 joined_by others connection guests = guests
 
 abbrev pub with_lag_noted : ℕ → GuestsFacts → GuestsFacts
@@ -114,12 +111,14 @@ may_lag session guest = has_session session guest.session && not guest.lagged
 
 -- the lag item of a session for whose connection none was made
 abbrev pub lagging : SessionId → List Guest → Option Lag
-lagging session rows = option_map (λ guest. record { connection = guest.connection; session = session }) (find (may_lag session) rows)
+lagging session rows =
+    option_map (λ guest. record { connection = guest.connection; session = session }) (find (may_lag session) rows)
 
 -- the lag item for a connection that has a session, where none was made for it
 abbrev pub lag_for : Guest → Option Lag
 lag_for guest =
-    if guest.lagged then None else option_map (λ session. record { connection = guest.connection; session = session }) guest.session
+    if guest.lagged then None else option_map
+    (λ session. record { connection = guest.connection; session = session }) guest.session
 
 abbrev pub is_gone_by : StateValue → Option SessionId → Bool
 is_gone_by state None = false

@@ -2,29 +2,21 @@
 use Rattle.std.specs.List.{filter_map}
 use Rattle.std.specs.Prelude.{◌≡◌, ◌==◌, ◌&&◌, ◌+◌, ℕ, zero, suc, Bool, true, false, not, List, [], ◌∷◌, ◌++◌, map, slice_get, Option, Some, None, MatchOption, option_to_list}
 use Rattle.mum_base.specs.declared.number.SessionId.{SessionId}
+use Rattle.mum_io.specs.{Door.DoorFacts, Link.LinkFacts}
+use Rattle.mum_io.specs.declared.door.Accept.{Accept}
 use Rattle.mum_crew.specs.Turns.{TurnsTo}
 use Rattle.mum_crew.specs.declared.role.Turn.{Turn}
-use Rattle.mum_io.specs.Door.{DoorFacts}
-use Rattle.mum_io.specs.Link.{LinkFacts}
-use Rattle.mum_io.specs.declared.door.Accept.{Accept}
-use Rattle.mum_io.specs.declared.door.Accept.TheVariants as accepted
-use Rattle.mum_port.specs.declared.item.DeskItem.{DeskItem}
-use Rattle.mum_port.specs.declared.item.DeskItem.TheVariants as items
-use Rattle.mum_published.specs.Bell.{Rung}
-use Rattle.mum_published.specs.Bell.Rung.{Answer, Comes}
-use Rattle.mum_published.specs.Facts.{ReplyFacts}
+use Rattle.mum_published.specs.{Bell.Rung, Bell.Rung.Answer, Bell.Rung.Comes, Facts.ReplyFacts}
 use Rattle.mum_session.specs.declared.command.Command.{Command}
+use Rattle.mum_port.specs.declared.item.DeskItem.{DeskItem}
 use Rattle.mum_owner.specs.Banning.{IsGivenOrRefused, SettledBy, banned_in, is_banned}
-use Rattle.mum_owner.specs.Bell.{SideFacts}
-use Rattle.mum_owner.specs.Facts.{DeskFacts, OwnerFacts}
-use Rattle.mum_owner.specs.Ringing.{worker_of}
-use Rattle.mum_owner.specs.Guests.{owned}
+use Rattle.mum_owner.specs.{Bell.SideFacts, Facts.DeskFacts, Facts.OwnerFacts, Ringing.worker_of, Guests.owned}
+use Rattle.mum_owner.specs.{Turned.Asks, Turned.OwnerTurned, Turned.is_not_to_ask, Written.is_leave, Written.is_login}
 use Rattle.mum_owner.specs.Serving.{Next, Receives, ReceivesBy, ReceivesItem, Serves, must_wait, next, with_pass}
 use Rattle.mum_owner.specs.Serving.Next.{Again, Goes, Rest, Take}
-use Rattle.mum_owner.specs.Turned.{Asks, OwnerTurned, is_not_to_ask}
-use Rattle.mum_owner.specs.Written.{is_leave, is_login}
-use Rattle.mum_owner.specs.declared.kept.Coming.{Coming}
-use Rattle.mum_owner.specs.declared.kept.Lag.{Lag}
+use Rattle.mum_owner.specs.declared.kept.{Coming.Coming, Lag.Lag}
+use Rattle.mum_io.specs.declared.door.Accept.TheVariants as accepted
+use Rattle.mum_port.specs.declared.item.DeskItem.TheVariants as items
 
 -- ---- one bell
 
@@ -48,11 +40,11 @@ answered others = None
 
 -- ---- whom an item is for
 
--- the connection is of the worker of this number, of so many
+-- the connection is of the worker of this number, of n
 abbrev pub is_of_worker : ℕ → ℕ → ℕ → Bool
 is_of_worker place workers connection = worker_of connection workers == place
 
--- the numbers of so many connections, in the order of their giving
+-- the numbers of n connections, in the order of their giving
 abbrev pub numbers : ℕ → List ℕ
 numbers zero = []
 numbers (suc given) = numbers given ++ suc given ∷ []
@@ -114,7 +106,8 @@ connections_of what =
 
 module _ {D L : Type 0} where
   -- a command that was given or refused, which lay on the desk as this
-  abbrev pub settled_given : (login : Bool) (banned : Option SessionId) (old : OwnerFacts D L) (command : Command) (new : OwnerFacts D L)
+  abbrev pub settled_given : (login : Bool) (banned : Option SessionId) (old : OwnerFacts D L) (command : Command)
+      (new : OwnerFacts D L)
       → SettledBy login banned old command new → Command → Settled
   settled_given true banned old command new tests lay = one_tested (is_banned old command tests.warden.last) lay
   settled_given false banned old command new given lay = record nothing { commands = lay ∷ [] }
@@ -123,12 +116,15 @@ module _ {D L : Type 0} where
   abbrev pub settled_waiting : (own : Option Command) (old : OwnerFacts D L) (login : Command) (new : OwnerFacts D L)
       → MatchOption own (new ≡ old) (λ command. IsGivenOrRefused old command new) → Settled
   settled_waiting None old login new same = record nothing { dropped = login ∷ [] }
-  settled_waiting (Some command) old login new given = settled_given (is_login command) (banned_in command) old command new given login
+  settled_waiting (Some command) old login new given =
+      settled_given (is_login command) (banned_in command) old command new given login
 
-  abbrev pub settled_by : (leave waits : Bool) (old : OwnerFacts D L) (command : Command) (new : OwnerFacts D L) → ReceivesBy leave waits old command new → Settled
+  abbrev pub settled_by : (leave waits : Bool) (old : OwnerFacts D L) (command : Command) (new : OwnerFacts D L)
+      → ReceivesBy leave waits old command new → Settled
   settled_by true waits old command new received = one_leave received.0 command.connection
   settled_by false true old command new received = nothing
-  settled_by false false old command new received = settled_given (is_login command) (banned_in command) old command new received command
+  settled_by false false old command new received =
+      settled_given (is_login command) (banned_in command) old command new received command
 
   -- a command of a connection that is not open settles nothing
   abbrev pub settled_owned : (own : Option Command) (old new : OwnerFacts D L) → Receives old own new → Settled
@@ -136,19 +132,23 @@ module _ {D L : Type 0} where
   settled_owned (Some command) old new received =
       settled_by (is_leave command.what) (is_login command && must_wait old) old command new received
 
-  abbrev pub settled_item : (old : OwnerFacts D L) (item : Option DeskItem) (new : OwnerFacts D L) → ReceivesItem old item new → Settled
+  abbrev pub settled_item : (old : OwnerFacts D L) (item : Option DeskItem) (new : OwnerFacts D L)
+      → ReceivesItem old item new → Settled
   settled_item old None new received = nothing
   settled_item old (Some (items.Closed connection)) new received = nothing
   settled_item old (Some (items.Command command)) new received =
       record (settled_owned (owned old.guests.rows command) old new received) { taken = command ∷ [] }
-  settled_item old (Some (items.Bans connection session payload)) new received = record nothing { lists = connection ∷ [] }
+  settled_item old (Some (items.Bans connection session payload)) new received =
+      record nothing { lists = connection ∷ [] }
 
   -- what a turn took and settled
-  abbrev pub settled : (next : Next) (old : OwnerFacts D L) (worked : Bool) (new : OwnerFacts D L) → Serves next old worked new → Settled
+  abbrev pub settled : (next : Next) (old : OwnerFacts D L) (worked : Bool) (new : OwnerFacts D L)
+      → Serves next old worked new → Settled
   settled Rest old worked new rests = nothing
   settled (Again connection) old worked new given = one_leave worked connection
   settled Goes old worked new gives =
-      settled_waiting (owned old.guests.rows gives.login) (record old { logins = gives.rest }) gives.login new gives.given
+      settled_waiting (owned old.guests.rows gives.login)
+      (record old { logins = gives.rest }) gives.login new gives.given
   settled Take old worked new takes = settled_item (with_pass takes.pass old) takes.item new takes.received
 
 -- ---- the turns
@@ -166,16 +166,20 @@ made (Some before) after = []
 -- a list that turns lead to
 abbrev pub FromTurns : {D L : Type 0} → (D → DoorFacts) → (L → LinkFacts) → Type 0 → Type 0
 FromTurns {D} {L} door_facts link_facts A =
-    (old : OwnerFacts D L) (turns : List Turn) (new : OwnerFacts D L) → TurnsTo (OwnerTurned door_facts link_facts) old turns new → List A
+    (old : OwnerFacts D L) (turns : List Turn) (new : OwnerFacts D L)
+    → TurnsTo (OwnerTurned door_facts link_facts) old turns new → List A
 
 module _ {D L : Type 0} (door_facts : D → DoorFacts) (link_facts : L → LinkFacts) where
   -- where the door was asked: the connection that it gave, with the next number
-  abbrev pub came_where : (b : Bool) (old : OwnerFacts D L) (worked : Bool) (new : OwnerFacts D L) → Asks door_facts link_facts b old worked new → List (Coming L)
+  abbrev pub came_where : (b : Bool) (old : OwnerFacts D L) (worked : Bool) (new : OwnerFacts D L)
+      → Asks door_facts link_facts b old worked new → List (Coming L)
   came_where true old worked new rests = []
   came_where false old worked new asks = came_by asks.answer (old.guests.given + 1)
 
   -- what each turn gave, one after another
-  abbrev pub over_turns : {A : Type 0} → ((old : OwnerFacts D L) (turn : Turn) (new : OwnerFacts D L) → OwnerTurned door_facts link_facts old turn new → List A) → FromTurns door_facts link_facts A
+  abbrev pub over_turns : {A : Type 0}
+      → ((old : OwnerFacts D L) (turn : Turn) (new : OwnerFacts D L) → OwnerTurned door_facts link_facts old turn new
+      → List A) → FromTurns door_facts link_facts A
   over_turns given old [] new all = []
   over_turns given old (turn ∷ turns) new all = given old turn all.0 all.1 ++ over_turns given all.0 turns new all.2
 
@@ -191,10 +195,12 @@ module _ {D L : Type 0} (door_facts : D → DoorFacts) (link_facts : L → LinkF
   -- the lag items, in the order in which they were made
   abbrev pub lags_made : FromTurns door_facts link_facts Lag
   lags_made =
-      over_turns (λ old turn new t. made t.after_desk.kept.lag t.after_press.kept.lag ++ made t.after_archive.kept.lag t.after_post.kept.lag)
+      over_turns (λ old turn new t. made t.after_desk.kept.lag t.after_press.kept.lag
+      ++ made t.after_archive.kept.lag t.after_post.kept.lag)
 
   -- what a turn took from the desk, and settled
-  abbrev pub settled_in : (old : OwnerFacts D L) (turn : Turn) (new : OwnerFacts D L) → OwnerTurned door_facts link_facts old turn new → Settled
+  abbrev pub settled_in : (old : OwnerFacts D L) (turn : Turn) (new : OwnerFacts D L)
+      → OwnerTurned door_facts link_facts old turn new → Settled
   settled_in old turn new t = settled (next t.after_offers) t.after_offers t.served t.after_desk t.serves
 
   -- the commands that were taken from the desk, in order, as they lay there
@@ -203,7 +209,8 @@ module _ {D L : Type 0} (door_facts : D → DoorFacts) (link_facts : L → LinkF
 
   -- those of connections that were open when they were taken, each for the session that was kept for its connection then
   abbrev pub commands_owned : FromTurns door_facts link_facts Command
-  commands_owned = over_turns (λ old turn new t. filter_map (owned t.after_offers.guests.rows) (settled_in old turn new t).taken)
+  commands_owned =
+      over_turns (λ old turn new t. filter_map (owned t.after_offers.guests.rows) (settled_in old turn new t).taken)
 
   -- the commands that were given to the control owner, or answered since memory ran out, in order; leaves apart
   abbrev pub commands_given : FromTurns door_facts link_facts Command
@@ -211,7 +218,9 @@ module _ {D L : Type 0} (door_facts : D → DoorFacts) (link_facts : L → LinkF
 
   -- the same, and the logins that were refused or dropped, in order
   abbrev pub commands_settled : FromTurns door_facts link_facts Command
-  commands_settled = over_turns (λ old turn new t. (settled_in old turn new t).commands ++ ((settled_in old turn new t).banned ++ (settled_in old turn new t).dropped))
+  commands_settled =
+      over_turns (λ old turn new t. (settled_in old turn new t).commands
+      ++ ((settled_in old turn new t).banned ++ (settled_in old turn new t).dropped))
 
   -- the connections whose leave was decided, in order
   abbrev pub leaves_decided : FromTurns door_facts link_facts ℕ

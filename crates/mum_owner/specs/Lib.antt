@@ -12,4 +12,5 @@ pub mod Laws
 pub mod Events
 pub mod Opened
 pub mod Noting
+pub mod Causes
 pub mod Sessions

@@ -1,16 +1,12 @@
 -- The notes that the turns of an owner give, and what the bell of the store got.
 use Rattle.std.specs.List.{filter_map, list_all}
 use Rattle.std.specs.Prelude.{◌≡◌, ◌⊎◌, Bool, true, false, IsTrue, List, [], ◌∷◌, ◌++◌, Option, Some, MatchBool}
-use Rattle.mum_control.specs.Commanded.{note_of}
+use Rattle.mum_io.specs.{Door.DoorFacts, Link.LinkFacts}
 use Rattle.mum_crew.specs.declared.role.Turn.{Turn}
-use Rattle.mum_io.specs.Door.{DoorFacts}
-use Rattle.mum_io.specs.Link.{LinkFacts}
-use Rattle.mum_keeper.specs.Archive.{ArchiveFacts, OffersRing}
-use Rattle.mum_keeper.specs.Bell.{NoMore, Noted, Ring}
 use Rattle.mum_published.specs.Facts.{NoteFacts, PublisherFacts, ReplyFacts}
-use Rattle.mum_owner.specs.Facts.{OwnerFacts}
-use Rattle.mum_owner.specs.Laws.{made}
-use Rattle.mum_owner.specs.Turned.{OwnerTurned}
+use Rattle.mum_control.specs.Commanded.{note_of}
+use Rattle.mum_keeper.specs.{Archive.ArchiveFacts, Archive.OffersRing, Bell.NoMore, Bell.Noted, Bell.Ring}
+use Rattle.mum_owner.specs.{Facts.OwnerFacts, Laws.made, Turned.OwnerTurned}
 
 -- ---- notes
 
@@ -32,7 +28,8 @@ module _ {D L : Type 0} where
 
 module _ {D L : Type 0} (door_facts : D → DoorFacts) (link_facts : L → LinkFacts) where
   -- the notes that a turn gave, but for the further one: that in the reply that it made, and that of what it published
-  abbrev pub notes_given : (old : OwnerFacts D L) (turn : Turn) (new : OwnerFacts D L) → OwnerTurned door_facts link_facts old turn new → List NoteFacts
+  abbrev pub notes_given : (old : OwnerFacts D L) (turn : Turn) (new : OwnerFacts D L)
+      → OwnerTurned door_facts link_facts old turn new → List NoteFacts
   notes_given old turn new t =
       filter_map note_in (made t.after_offers.kept.reply t.after_desk.kept.reply)
       ++ published_note t.published t.after_press.control.publisher
@@ -46,7 +43,8 @@ is_note NoMore = false
 abbrev pub AreNotes : List Ring → Type 0
 AreNotes rings = IsTrue (list_all is_note rings)
 
--- notes were put, and behind them, where the bell took it, once that none comes any more
+-- notes were put, and after them, where the bell took it, once that none comes any more
 abbrev pub EndsOnce : ArchiveFacts → Type 0
 EndsOnce side =
-    MatchBool side.is_told ((notes : List Ring) × (side.put ≡ notes ++ NoMore ∷ []) × AreNotes notes) (AreNotes side.put)
+    MatchBool side.is_told ((notes : List Ring) × (side.put ≡ notes ++ NoMore ∷ []) × AreNotes notes)
+    (AreNotes side.put)

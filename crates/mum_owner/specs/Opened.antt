@@ -2,15 +2,13 @@
 use Rattle.std.specs.Prelude.{◌≡◌, ℕ, Bool, false, List, [], map, Option, None}
 use Rattle.std.specs.Option.{option_map}
 use Rattle.mum_outbox.specs.Facts.{QueueId}
-use Rattle.mum_control.specs.Facts.{ControlFacts}
 use Rattle.mum_state.specs.State.{StateValue}
 use Rattle.mum_doorway.specs.Asking.{new_doorway}
-use Rattle.mum_keeper.specs.Archive.{new_archive}
-use Rattle.mum_owner.specs.Bell.{new_side}
-use Rattle.mum_owner.specs.Facts.{OwnerFacts}
-use Rattle.mum_owner.specs.Guests.{no_guests}
-use Rattle.mum_owner.specs.declared.owner.OwnerOpening.{OwnerOpening}
 use Rattle.mum_doorway.specs.declared.opening.DoorOpening.{DoorOpening}
+use Rattle.mum_control.specs.Facts.{ControlFacts}
+use Rattle.mum_keeper.specs.Archive.{new_archive}
+use Rattle.mum_owner.specs.{Bell.new_side, Facts.OwnerFacts, Guests.no_guests}
+use Rattle.mum_owner.specs.declared.owner.OwnerOpening.{OwnerOpening}
 
 abbrev pub opening_of : StateValue → DoorOpening → ℕ → Bool → OwnerOpening
 opening_of state door connections journal =
@@ -18,7 +16,8 @@ opening_of state door connections journal =
 
 -- the owner is new: it has the control owner and the door, keeps nothing, has no bans, and its bells are these queues, in
 -- order, into which it has put nothing; so is the bell of the store, where there is one
-abbrev pub IsOpened : {D L : Type 0} → ControlFacts → D → ℕ → Bool → List QueueId → Option QueueId → OwnerFacts D L → Type 0
+abbrev pub IsOpened : {D L : Type 0} → ControlFacts → D → ℕ → Bool → List QueueId → Option QueueId → OwnerFacts D L
+    → Type 0
 IsOpened control door connections journal queues store owner =
     owner ≡ record {
       control = control;

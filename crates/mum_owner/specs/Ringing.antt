@@ -4,8 +4,7 @@ use Rattle.std.specs.List.{list_all}
 use Rattle.mum_outbox.specs.Calls.{one_more}
 use Rattle.mum_published.specs.Bell.{Rung}
 use Rattle.mum_published.specs.Bell.Rung.{Answer, Comes, Lagging, NoMore}
-use Rattle.mum_owner.specs.Bell.{SideFacts}
-use Rattle.mum_owner.specs.Facts.{KeptFacts}
+use Rattle.mum_owner.specs.{Bell.SideFacts, Facts.KeptFacts}
 
 -- ---- one bell
 
@@ -41,7 +40,8 @@ abbrev pub at_worker : {L : Type 0} → ℕ → (SideFacts L → SideFacts L) �
 at_worker connection change bells = changed_at (worker_of connection (length bells)) change bells
 
 -- what is kept for the worker of a connection is offered once to its bell, and is kept on where that is full
-abbrev pub OffersOne : {L A : Type 0} → (A → ℕ) → (A → Rung L) → List (SideFacts L) → Option A → Bool → List (SideFacts L) → Option A → Type 0
+abbrev pub OffersOne : {L A : Type 0} → (A → ℕ) → (A → Rung L) → List (SideFacts L) → Option A → Bool
+    → List (SideFacts L) → Option A → Type 0
 OffersOne connection item bells None took after kept = (took ≡ false) × (after ≡ bells) × (kept ≡ None)
 OffersOne connection item bells (Some one) true after kept =
     (after ≡ at_worker (connection one) (with_put (item one)) bells) × (kept ≡ None)
@@ -64,7 +64,7 @@ are_told bells = list_all (λ side. side.is_told) bells
 -- ---- what is kept
 
 -- each item that is kept is offered once to its bell, the reply, the lag item and the connection in this order, and
--- where the bells are to be told, each is offered that no more connections come
+-- where the bells are to be notified, each is offered that no more connections come
 pub record OffersKept {L : Type 0} (bells : List (SideFacts L)) (kept : KeptFacts L) (is_ending took : Bool)
     (after : List (SideFacts L)) (left : KeptFacts L) : Type 0 where
   pub reply : Bool
@@ -75,7 +75,9 @@ pub record OffersKept {L : Type 0} (bells : List (SideFacts L)) (kept : KeptFact
   pub after_lag : List (SideFacts L)
   pub after_coming : List (SideFacts L)
   pub offers_reply : OffersOne (λ reply. reply.connection) Answer bells kept.reply reply after_reply left.reply
-  pub offers_lag : OffersOne (λ lag. lag.connection) (λ lag. Lagging lag.session) after_reply kept.lag lag after_lag left.lag
-  pub offers_coming : OffersOne (λ coming. coming.connection) (λ coming. Comes coming.connection coming.link) after_lag kept.coming coming after_coming left.coming
+  pub offers_lag : OffersOne (λ lag. lag.connection)
+      (λ lag. Lagging lag.session) after_reply kept.lag lag after_lag left.lag
+  pub offers_coming : OffersOne (λ coming. coming.connection)
+      (λ coming. Comes coming.connection coming.link) after_lag kept.coming coming after_coming left.coming
   pub tells : MatchBool is_ending (TellsEach after_coming told after) ((told ≡ false) × (after ≡ after_coming))
   pub so : took ≡ (reply || (lag || (coming || told)))

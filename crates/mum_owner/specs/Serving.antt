@@ -1,29 +1,22 @@
 -- What an owner does with the desk.
 use Rattle.std.specs.Prelude.{◌≡◌, ◌⊎◌, ℕ, ◌==◌, ◌&&◌, nat_lt, ⊤, Bool, true, false, List, [], ◌∷◌, ◌++◌, find, length, is_none, is_some, Option, Some, None, MatchOption, if◌then◌else◌}
 use Rattle.std.specs.Option.{option_and_then}
-use Rattle.mum_base.specs.declared.number.SessionId.{SessionId}
-use Rattle.mum_base.specs.declared.number.TheConstants.{CONNECTION_LIMIT}
-use Rattle.mum_control.specs.Commanded.{Commanded, current}
-use Rattle.mum_control.specs.Facts.{ControlFacts}
-use Rattle.mum_control.specs.Kept.{next_slot, slot_of}
-use Rattle.mum_control.specs.Posting.{EmptiesPost}
-use Rattle.mum_outbox.specs.Calls.{Takes}
-use Rattle.mum_outbox.specs.Facts.{PassFacts}
-use Rattle.mum_outbox.specs.declared.parcel.TheConstants.{DESK_CAPACITY}
-use Rattle.mum_port.specs.Asked.{WasAsked}
-use Rattle.mum_port.specs.declared.item.DeskItem.{DeskItem}
-use Rattle.mum_port.specs.declared.item.DeskItem.TheVariants as items
+use Rattle.mum_base.specs.declared.number.{SessionId.SessionId, TheConstants.CONNECTION_LIMIT}
+use Rattle.mum_outbox.specs.{Calls.Takes, Facts.PassFacts}
+use Rattle.mum_outbox.specs.declared.kinds.TheConstants.{DESK_CAPACITY}
 use Rattle.mum_published.specs.Facts.{ReplyFacts}
 use Rattle.mum_rules_user.specs.declared.message.UserMessage.TheVariants.{Leave}
-use Rattle.mum_session.specs.declared.command.Asked.TheVariants.{User}
-use Rattle.mum_session.specs.declared.command.Command.{Command}
-use Rattle.mum_owner.specs.Banning.{IsGivenOrRefused, SettlesList}
-use Rattle.mum_owner.specs.Facts.{KeptFacts, OwnerFacts}
+use Rattle.mum_session.specs.declared.command.{Asked.TheVariants.User, Command.Command}
+use Rattle.mum_port.specs.Asked.{WasAsked}
+use Rattle.mum_port.specs.declared.item.DeskItem.{DeskItem}
+use Rattle.mum_control.specs.{Commanded.Commanded, Commanded.current, Facts.ControlFacts, Kept.next_slot, Kept.slot_of}
+use Rattle.mum_control.specs.Posting.{EmptiesPost}
+use Rattle.mum_owner.specs.{Banning.IsGivenOrRefused, Banning.SettlesList, Facts.KeptFacts, Facts.OwnerFacts}
 use Rattle.mum_owner.specs.Given.{with_draft, with_reply}
 use Rattle.mum_owner.specs.Guests.{is_gone_from, left, owned, session_of}
 use Rattle.mum_owner.specs.Written.{is_leave, is_login, recorded, refused}
-use Rattle.mum_owner.specs.declared.desk.TheConstants.{PENDING_LIMIT}
-use Rattle.mum_owner.specs.declared.guests.Guest.{Guest}
+use Rattle.mum_owner.specs.declared.{desk.TheConstants.PENDING_LIMIT, guests.Guest.Guest}
+use Rattle.mum_port.specs.declared.item.DeskItem.TheVariants as items
 
 -- the command of an item, if it is one, was asked for
 abbrev pub WasAskedIn : Option DeskItem → Type 0
@@ -71,7 +64,8 @@ module _ {D L : Type 0} where
   -- get
   abbrev pub blocker : OwnerFacts D L → Option Guest
   blocker owner =
-      option_and_then (λ slot. find (is_gone_from (current owner.control) slot) owner.guests.rows) (next_slot (current owner.control))
+      option_and_then (λ slot. find (is_gone_from (current owner.control) slot) owner.guests.rows)
+      (next_slot (current owner.control))
 
   -- ---- a leave
 
@@ -99,7 +93,8 @@ module _ {D L : Type 0} where
     pub others : new ≡ record old { desk = record old.desk { leave = Some connection }; scribe = refused old.scribe }
 
   abbrev pub LeaveIsGiven : OwnerFacts D L → ℕ → Bool → OwnerFacts D L → Type 0
-  LeaveIsGiven old connection decided new = GivesLeave old connection decided new ⊎ DropsLeave old connection decided new
+  LeaveIsGiven old connection decided new =
+      GivesLeave old connection decided new ⊎ DropsLeave old connection decided new
 
   -- ---- an item of the desk
 
@@ -120,7 +115,8 @@ module _ {D L : Type 0} where
   -- other is given or refused. Nothing changes for a command of a connection that is not open
   abbrev pub Receives : OwnerFacts D L → Option Command → OwnerFacts D L → Type 0
   Receives old None new = new ≡ old
-  Receives old (Some command) new = ReceivesBy (is_leave command.what) (is_login command && must_wait old) old command new
+  Receives old (Some command) new =
+      ReceivesBy (is_leave command.what) (is_login command && must_wait old) old command new
 
   -- an item came from the desk, if one lay there. A command is for the session that is kept for its connection, whatever
   -- it says itself; a list of bans is of the session that it names
@@ -150,7 +146,8 @@ module _ {D L : Type 0} where
     pub first : old.logins ≡ login ∷ rest
     pub asked : WasAsked login.what
     pub so : worked ≡ true
-    pub given : MatchOption (owned old.guests.rows login) (new ≡ record old { logins = rest }) (λ own. IsGivenOrRefused (record old { logins = rest }) own new)
+    pub given : MatchOption (owned old.guests.rows login) (new ≡ record old { logins = rest })
+        (λ own. IsGivenOrRefused (record old { logins = rest }) own new)
 
   -- ---- what is done next
 
@@ -159,7 +156,8 @@ module _ {D L : Type 0} where
 
   abbrev pub next : OwnerFacts D L → Next
   next owner =
-      next_by (is_some owner.kept.reply) owner.desk.leave (nat_lt PENDING_LIMIT (length owner.control.pending)) (may_go owner)
+      next_by (is_some owner.kept.reply) owner.desk.leave (nat_lt PENDING_LIMIT (length owner.control.pending))
+      (may_go owner)
       (nat_lt (length owner.logins) CONNECTION_LIMIT)
 
   abbrev pub Serves : Next → OwnerFacts D L → Bool → OwnerFacts D L → Type 0

@@ -1,11 +1,9 @@
 -- The session that is kept for each open connection, and the roll of logins, by the replies that were made.
 use Rattle.std.specs.Prelude.{◌≡◌, ◌==◌, ℕ, List, fold, flat_map, Option, Some, None, if◌then◌else◌}
-use Rattle.mum_base.specs.declared.number.SessionId.{SessionId}
-use Rattle.mum_base.specs.declared.reply.ReplyEnd.{ReplyEnd}
+use Rattle.mum_base.specs.declared.{number.SessionId.SessionId, reply.ReplyEnd.ReplyEnd}
 use Rattle.mum_base.specs.declared.reply.ReplyEnd.TheVariants.{Joined}
 use Rattle.mum_published.specs.declared.roll.Login.{Login}
-use Rattle.mum_published.specs.Facts.{ReplyFacts}
-use Rattle.mum_published.specs.Rolls.{login_of}
+use Rattle.mum_published.specs.{Facts.ReplyFacts, Rolls.login_of}
 use Rattle.mum_owner.specs.declared.guests.Guest.{Guest}
 
 -- the session that an accepted login gave; any other reply leaves the one of before
@@ -23,10 +21,10 @@ last_session connection replies = fold (session_after connection) None replies
 abbrev pub HasLastSession : List ReplyFacts → Guest → Type 0
 HasLastSession replies guest = guest.session ≡ last_session guest.connection replies
 
--- the login that a reply tells of, if it tells of one
+-- the login that a reply reports, if it reports one
 abbrev pub login_in : ReplyFacts → List Login
 login_in reply = login_of reply.connection reply.end
 
--- the logins that these tell of, in order
+-- the logins that these report, in order
 abbrev pub logins_in : List ReplyFacts → List Login
 logins_in replies = flat_map login_in replies

@@ -1,28 +1,22 @@
 -- The turn of an owner, as the chain of its parts.
 use Rattle.std.specs.Prelude.{◌≡◌, ◌+◌, ◌==◌, ◌&&◌, ◌||◌, ◌⊎◌, ℕ, not, Bool, true, false, List, length, is_some, is_none, Option, Some, None, MatchBool, if◌then◌else◌}
 use Rattle.std.specs.Option.{option_and_then}
-use Rattle.mum_control.specs.Commanded.{note_of}
-use Rattle.mum_control.specs.Facts.{ControlFacts}
-use Rattle.mum_control.specs.Posting.{PostsNext}
-use Rattle.mum_control.specs.declared.posted.Posted.{Posted}
-use Rattle.mum_control.specs.declared.posted.Posted.TheVariants as posted
-use Rattle.mum_crew.specs.declared.role.Turn.{Turn}
-use Rattle.mum_crew.specs.declared.role.Turn.TheVariants as turns
-use Rattle.mum_io.specs.Door.{AcceptCounts, DoorFacts, given_after}
-use Rattle.mum_io.specs.Link.{LinkFacts}
+use Rattle.mum_io.specs.{Door.AcceptCounts, Door.DoorFacts, Door.given_after, Link.LinkFacts}
 use Rattle.mum_io.specs.declared.door.Accept.{Accept}
-use Rattle.mum_io.specs.declared.door.Accept.TheVariants as accepted
-use Rattle.mum_keeper.specs.Archive.{OffersNote, TellsStore, is_archive_told}
-use Rattle.mum_published.specs.Calls.{all_published}
+use Rattle.mum_crew.specs.declared.role.Turn.{Turn}
 use Rattle.mum_doorway.specs.Asking.{failed_by, stopped_by}
-use Rattle.mum_owner.specs.Banning.{has_note}
-use Rattle.mum_owner.specs.Facts.{GuestsFacts, KeptFacts, OwnerFacts}
-use Rattle.mum_owner.specs.Guests.{are_all_given, are_none_open, entered, has_room, have_all_left, lag_for, lagging, with_lag_noted}
-use Rattle.mum_owner.specs.Ringing.{OffersKept, are_told}
-use Rattle.mum_owner.specs.Serving.{Rests, ServesDesk, blocker}
-use Rattle.mum_owner.specs.declared.guests.Guest.{Guest}
+use Rattle.mum_published.specs.Calls.{all_published}
+use Rattle.mum_control.specs.{Commanded.note_of, Facts.ControlFacts, Posting.PostsNext, Posting.due_notices}
+use Rattle.mum_control.specs.declared.posted.Posted.{Posted}
+use Rattle.mum_keeper.specs.Archive.{OffersNote, TellsStore, is_archive_told}
+use Rattle.mum_owner.specs.{Banning.has_note, Facts.GuestsFacts, Facts.KeptFacts, Facts.OwnerFacts}
+use Rattle.mum_owner.specs.{Ringing.OffersKept, Ringing.are_told, Serving.Rests, Serving.ServesDesk, Serving.blocker}
 use Rattle.mum_owner.specs.Written.{refused}
-use Rattle.mum_owner.specs.declared.kept.Lag.{Lag}
+use Rattle.mum_owner.specs.Guests.{are_all_given, are_none_open, entered, has_room, have_all_left, lag_for, lagging, with_lag_noted}
+use Rattle.mum_owner.specs.declared.{guests.Guest.Guest, kept.Lag.Lag}
+use Rattle.mum_control.specs.declared.posted.Posted.TheVariants as posted
+use Rattle.mum_crew.specs.declared.role.Turn.TheVariants as turns
+use Rattle.mum_io.specs.declared.door.Accept.TheVariants as accepted
 
 -- a notice was taken
 abbrev pub has_posted : Posted → Bool
@@ -65,12 +59,12 @@ module _ {D L : Type 0} where
       × (new ≡ record old { control = record old.control { publisher = all_published old.control.publisher } })
   Publishes old false new = new ≡ old
 
-  -- the first pending notice was posted, if there was one. The first Lagged of a session that is kept for an open
+  -- the first notice that was to be posted was, if there was one. The first Lagged of a session that is kept for an open
   -- connection makes a lag item for it
   pub record PostsOne (old : OwnerFacts D L) (worked : Bool) (new : OwnerFacts D L) : Type 0 where
     pub answer : Posted
     pub after : ControlFacts
-    pub posts : PostsNext old.control old.control.pending answer after
+    pub posts : PostsNext old.control (due_notices old.control) answer after
     pub so : worked ≡ has_posted answer
     pub others : new ≡ with_lag (lag_at answer old.guests.rows) (record old { control = after })
 
@@ -92,9 +86,10 @@ module _ {D L : Type 0} where
   abbrev pub ended : OwnerFacts D L → OwnerFacts D L
   ended owner = if is_over owner && is_none owner.kept.coming then record owner { is_ending = true } else owner
 
-  -- no more connections come, each has closed, and each bell was told, that of the store too, where there is one
+  -- no more connections come, each has closed, and each bell was notified, that of the store too, where there is one
   abbrev pub has_ended : OwnerFacts D L → Bool
-  has_ended owner = is_over owner && (have_all_left owner.guests && (are_told owner.bells && is_archive_told owner.archive))
+  has_ended owner =
+      is_over owner && (have_all_left owner.guests && (are_told owner.bells && is_archive_told owner.archive))
 
   -- ---- the store
 
@@ -106,7 +101,8 @@ module _ {D L : Type 0} where
   -- is published
   abbrev pub is_through : OwnerFacts D L → Bool
   is_through owner =
-      is_over owner && (are_none_open owner.guests && (is_none owner.desk.leave && (length owner.control.publisher.pending == 0)))
+      is_over owner
+      && (are_none_open owner.guests && (is_none owner.desk.leave && (length owner.control.publisher.pending == 0)))
 
   -- a further note, of all that is published, is offered once to the bell of the store, and not kept. All is published before
   pub record OffersFurther (old : OwnerFacts D L) (took : Bool) (new : OwnerFacts D L) : Type 0 where
@@ -129,7 +125,7 @@ module _ {D L : Type 0} where
   ArchivesBy true false false old worked new = Rests old worked new
 
   -- where there is a store: a turn that gave a note makes a further one for it; and any other, once nothing is to come that
-  -- could give one, has that told to it
+  -- could give one, has that sent to it
   abbrev pub Archives : (noted : Bool) → OwnerFacts D L → Bool → OwnerFacts D L → Type 0
   Archives noted old worked new = ArchivesBy (is_some old.archive) noted (is_through old) old worked new
 
@@ -138,7 +134,8 @@ guests_by link_facts (accepted.Conn link) guests = entered (link_facts link).add
 guests_by link_facts others guests = guests
 
 abbrev pub kept_by : {L : Type 0} → Accept L → ℕ → KeptFacts L → KeptFacts L
-kept_by (accepted.Conn link) connection kept = record kept { coming = Some (record { connection = connection; link = link }) }
+kept_by (accepted.Conn link) connection kept =
+    record kept { coming = Some (record { connection = connection; link = link }) }
 kept_by others connection kept = kept
 
 abbrev pub has_answered : {L : Type 0} → Accept L → Bool
@@ -197,4 +194,5 @@ module _ {D L : Type 0} (door_facts : D → DoorFacts) (link_facts : L → LinkF
     pub posts : PostsNotice after_archive posted after_post
     pub asks : Asks (is_not_to_ask after_post) after_post came after_door
     pub ends : new ≡ ended after_door
-    pub came_to : turn ≡ turn_of (has_ended new) (offered || (served || (pressed || (published || (archived || (posted || came))))))
+    pub came_to : turn
+        ≡ turn_of (has_ended new) (offered || (served || (pressed || (published || (archived || (posted || came))))))

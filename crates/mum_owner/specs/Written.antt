@@ -1,24 +1,22 @@
 -- What is counted and written down of the commands.
 use Rattle.std.specs.Prelude.{◌≡◌, ◌==◌, ℕ, ◌&&◌, ◌||◌, Bool, true, false, IsTrue, List, [], ◌∷◌, ◌++◌, is_none, Option, Some, None, IfSome, if◌then◌else◌}
 use Rattle.std.specs.Option.{option_map}
-use Rattle.mum_base.specs.declared.reply.Mark.{Mark}
-use Rattle.mum_base.specs.declared.reply.Mark.TheVariants.{Accepted}
+use Rattle.mum_base.specs.declared.reply.Mark.{Mark, TheVariants.Accepted}
 use Rattle.mum_frame.specs.Frame.{IsOneFrame, kind_of, spelling_of}
-use Rattle.mum_frame.specs.declared.kind.TheConstants as kinds
 use Rattle.mum_record.specs.Journal.{may_carry}
 use Rattle.mum_record.specs.declared.journal.ControlEntry.{ControlEntry}
-use Rattle.mum_rules_tree.specs.Asked as channels
 use Rattle.mum_rules_tree.specs.declared.message.TreeMessage.{TreeMessage}
 use Rattle.mum_rules_tree.specs.declared.message.TreeMessage.TheVariants.{State, Remove, Acl}
-use Rattle.mum_rules_user.specs.Asked as users
 use Rattle.mum_rules_user.specs.declared.message.UserMessage.{UserMessage}
 use Rattle.mum_rules_user.specs.declared.message.UserMessage.TheVariants.{Join, Kick, Leave, Query, Target, Text}
-use Rattle.mum_rules_user.specs.declared.message.UserMessage.TheVariants as about
-use Rattle.mum_session.specs.declared.command.Asked.{Asked}
-use Rattle.mum_session.specs.declared.command.Asked.TheVariants.{Tree, User}
+use Rattle.mum_session.specs.declared.command.Asked.{Asked, TheVariants.Tree, TheVariants.User}
 use Rattle.mum_session.specs.declared.command.Command.{Command}
 use Rattle.mum_owner.specs.Facts.{ScribeFacts}
 use Rattle.mum_owner.specs.declared.entry.Draft.{Draft}
+use Rattle.mum_frame.specs.declared.kind.TheConstants as kinds
+use Rattle.mum_rules_tree.specs.Asked as channels
+use Rattle.mum_rules_user.specs.Asked as users
+use Rattle.mum_rules_user.specs.declared.message.UserMessage.TheVariants as about
 
 abbrev pub is_join : Asked → Bool
 is_join (User (Join login version)) = true
@@ -59,13 +57,14 @@ abbrev pub own_frame : Asked → Option (List ℕ)
 own_frame (Tree message) = Some (spelling_of (tree_kind message) (channels.payload_of message))
 own_frame (User message) = option_map (λ kind. spelling_of kind (users.payload_of message)) (user_kind message)
 
--- the version that a connection told, at a frame of this type: a login alone has it
+-- the version that a connection sent, at a frame of this type: a login alone has it
 abbrev pub version_with : ℕ → Option ℕ → Option ℕ
 version_with kind told = if kind == kinds.AUTHENTICATE then told else None
 
 -- the journal has a frame of this type of the command, and this version
 abbrev pub IsWrittenAs : ℕ → Option ℕ → Asked → Type 0
-IsWrittenAs kind version what = (frame : List ℕ) × (own_frame what ≡ Some frame) × (kind_of frame ≡ kind) × (version_of what ≡ version)
+IsWrittenAs kind version what =
+    (frame : List ℕ) × (own_frame what ≡ Some frame) × (kind_of frame ≡ kind) × (version_of what ≡ version)
 
 -- what can be written of a command as a line of a journal: its frame is within the limit of frames
 abbrev pub IsWritableDraft : Draft → Type 0

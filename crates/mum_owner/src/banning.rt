@@ -23,14 +23,14 @@ fn banned_by(actor: Option<SessionId>, what: &Asked) -> Option<SessionId>
     }
 }
 
-/// The session that a command removes with a ban, if it does.
+// The session that a command removes with a ban, if it does.
 pub(crate) fn banned_in(command: &Command) -> Option<SessionId>
     ensures { result ≡ banned_in command.now }
 {
     banned_by(command.session, &command.what)
 }
 
-/// The reason that a removal gives, or none.
+// The reason that a removal gives, or none.
 pub(crate) fn reason_in(what: &Asked) -> &str
     ensures { result.now ≡ reason_in what.now }
 {

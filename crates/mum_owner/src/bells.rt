@@ -14,8 +14,8 @@ use std::alloc::Global;
 use std::marker::Model;
 use std::sync::Wait;
 
-/// The bell of a worker, the pass by which the owner offers to it, and whether it took that no more connections
-/// come.
+// The bell of a worker, the pass by which the owner offers to it, and whether it took that no more connections
+// come.
 #[derive(Drop)]
 pub(crate) struct Side<L: Drop, N: Naming> {
     queue: Bell<BellItem<L, N>>,
@@ -108,7 +108,7 @@ impl<L: Drop, N: Naming> Side<L, N> {
     }
 }
 
-/// The bell of each worker, in their order. There is at least one.
+// The bell of each worker, in their order. There is at least one.
 #[derive(Drop)]
 pub(crate) struct Bells<L: Drop, N: Naming> {
     sides: Vec<Side<L, N>>,
@@ -125,7 +125,7 @@ impl<L: Drop, N: Naming> Model for Bells<L, N> {
     ghost invariant = { λ b. 0 < length b.sides.items };
 }
 
-/// A pass of each bell, in their order.
+// A pass of each bell, in their order.
 fn sides_of<L: Drop, N: Naming>(
     alloc: Global,
     bells: Vec<Bell<BellItem<L, N>>>,
@@ -151,7 +151,7 @@ fn worker_of(connection: u32, workers: usize) -> usize
     (connection as usize - 1) % workers
 }
 
-/// Whether one of two holds.
+// Whether one of two holds.
 pub(crate) fn either(one: bool, other: bool) -> bool
     ensures { result ≡ (one || other) }
 {
@@ -189,7 +189,7 @@ impl<L: Drop, N: Naming> Bells<L, N> {
         }
     }
 
-    /// Where it is so, offers that no more connections come to each bell that did not take it yet.
+    // Where it is so, offers that no more connections come to each bell that did not take it yet.
     pub(crate) fn tell_where<R: Wait>(&mut self, rt: &R, is_ending: bool) -> bool
         ensures { MatchBool is_ending (TellsEach self.old result self.new) ((result ≡ false) × (self.new ≡ self.old)) }
     {
@@ -200,7 +200,7 @@ impl<L: Drop, N: Naming> Bells<L, N> {
         }
     }
 
-    /// Whether each bell took that no more connections come.
+    // Whether each bell took that no more connections come.
     pub(crate) fn are_told(&self) -> bool
         ensures { result ≡ are_told self.now }
     {
@@ -220,7 +220,7 @@ fn tell_sides<L: Drop, N: Naming, R: Wait>(rt: &R, sides: &mut Vec<Side<L, N>>) 
     told
 }
 
-/// Offers a reply that is kept, once. Answers whether its bell took it.
+// Offers a reply that is kept, once. Answers whether its bell took it.
 pub(crate) fn offer_reply<L: Drop, N: Naming, R: Wait>(
     rt: &R,
     bells: &mut Bells<L, N>,
@@ -241,7 +241,7 @@ pub(crate) fn offer_reply<L: Drop, N: Naming, R: Wait>(
     }
 }
 
-/// Offers a lag item that is kept, once. Answers whether its bell took it.
+// Offers a lag item that is kept, once. Answers whether its bell took it.
 pub(crate) fn offer_lag<L: Drop, N: Naming, R: Wait>(
     rt: &R,
     bells: &mut Bells<L, N>,
@@ -262,7 +262,7 @@ pub(crate) fn offer_lag<L: Drop, N: Naming, R: Wait>(
     }
 }
 
-/// Offers a connection that is kept, once. Answers whether its bell took it.
+// Offers a connection that is kept, once. Answers whether its bell took it.
 pub(crate) fn offer_coming<L: Drop, N: Naming, R: Wait>(
     rt: &R,
     bells: &mut Bells<L, N>,

@@ -67,7 +67,7 @@ fn own_frame(alloc: Global, what: &Asked) -> Result<Option<Octets>, OutOfMemory>
     }
 }
 
-/// What the journal's entry has of a command: the version of a login, and the command's own frame.
+// What the journal's entry has of a command: the version of a login, and the command's own frame.
 pub(crate) fn entry_of(alloc: Global, command: &Command) -> Result<Draft, OutOfMemory>
     ensures version { IfOk result (λ draft. draft.version ≡ version_of command.now.what) }
     ensures frame { IfOk result (λ draft. draft.frame ≡ own_frame command.now.what) }

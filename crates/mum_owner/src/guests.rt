@@ -30,7 +30,7 @@ pub struct Guest {
     pub lagged: bool,
 }
 
-/// The open connections by their numbers, and how many were given and have closed.
+// The open connections by their numbers, and how many were given and have closed.
 #[derive(Drop)]
 pub(crate) struct Guests {
     // It has room for as many as may be open at once.
@@ -96,7 +96,7 @@ fn may_lag(guest: &Guest, session: SessionId) -> bool
     has && !guest.lagged
 }
 
-/// The lag item for a connection that has a session, where none was made for it.
+// The lag item for a connection that has a session, where none was made for it.
 pub(crate) fn lag_for(guest: &Guest) -> Option<Lag>
     ensures { result ≡ lag_for guest.now }
 {
@@ -248,7 +248,7 @@ fn let_go(rows: &mut Vec<Guest>, connection: u32)
 }
 
 impl Guests {
-    /// None yet. At most `limit` will be given.
+    // None yet. At most `limit` will be given.
     pub(crate) fn open(alloc: Global, limit: u32) -> Result<Guests, OutOfMemory>
         ensures { IfOk result (λ guests. guests ≡ no_guests limit) }
     {
@@ -260,7 +260,7 @@ impl Guests {
         })
     }
 
-    /// How many were given.
+    // How many were given.
     pub(crate) fn given(&self) -> u32
         ensures given { result ≡ self.now.given }
         ensures within { result ≤ self.now.limit }
@@ -268,7 +268,7 @@ impl Guests {
         self.given
     }
 
-    /// Whether one more may be given.
+    // Whether one more may be given.
     pub(crate) fn has_room(&self) -> bool
         ensures { result ≡ has_room self.now }
     {
@@ -276,28 +276,28 @@ impl Guests {
         rows.len() < CONNECTION_LIMIT && self.given < self.limit
     }
 
-    /// Whether as many were given as are in all.
+    // Whether as many were given as are in all.
     pub(crate) fn are_all_given(&self) -> bool
         ensures { result ≡ are_all_given self.now }
     {
         self.limit <= self.given
     }
 
-    /// Whether no connection is open.
+    // Whether no connection is open.
     pub(crate) fn are_none_open(&self) -> bool
         ensures { result ≡ are_none_open self.now }
     {
         self.rows.is_empty()
     }
 
-    /// Whether each that was given has closed.
+    // Whether each that was given has closed.
     pub(crate) fn have_all_left(&self) -> bool
         ensures { result ≡ have_all_left self.now }
     {
         self.closed == self.given
     }
 
-    /// One more is given, whose link has this address. Answers its number.
+    // One more is given, whose link has this address. Answers its number.
     pub(crate) fn enter(&mut self, address: [u8; 16]) -> u32
         requires { IsTrue (has_room self.old) }
         ensures number { result ≡ self.old.given + 1 }
@@ -315,7 +315,7 @@ impl Guests {
         connection
     }
 
-    /// The connection has closed. Nothing happens where it is not open.
+    // The connection has closed. Nothing happens where it is not open.
     pub(crate) fn leave(&mut self, connection: u32)
         ensures { self.new ≡ left connection self.old }
     {
@@ -325,7 +325,7 @@ impl Guests {
         }
     }
 
-    /// The address of the link of an open connection; sixteen zeros where it is not open.
+    // The address of the link of an open connection; sixteen zeros where it is not open.
     pub(crate) fn address_of(&self, connection: u32) -> [u8; 16]
         ensures { result ≡ address_of connection self.now.rows }
     {
@@ -335,14 +335,14 @@ impl Guests {
         }
     }
 
-    /// The open connection that has this session.
+    // The open connection that has this session.
     pub(crate) fn with_session(&self, session: SessionId) -> Option<Guest>
         ensures { result ≡ guest_with session self.now.rows }
     {
         guest_with(self.rows.as_slice(), session)
     }
 
-    /// The session that is kept for a connection.
+    // The session that is kept for a connection.
     pub(crate) fn session_of(&self, connection: u32) -> Option<SessionId>
         ensures { result ≡ session_of connection self.now.rows }
     {
@@ -352,7 +352,7 @@ impl Guests {
         }
     }
 
-    /// The command, for the session that is kept for its connection. It is dropped where that is not open.
+    // The command, for the session that is kept for its connection. It is dropped where that is not open.
     pub(crate) fn owned(&self, command: Command) -> Option<Command>
         ensures { result ≡ owned self.now.rows command }
     {
@@ -360,14 +360,14 @@ impl Guests {
         owned_by(guest, command)
     }
 
-    /// A login of the connection was accepted.
+    // A login of the connection was accepted.
     pub(crate) fn join(&mut self, connection: u32, session: SessionId, slot: Slot)
         ensures { self.new ≡ joined_by (Joined session slot) connection self.old }
     {
         seat_in(&mut self.rows, connection, session, slot);
     }
 
-    /// The lag item of a session for whose connection none was made.
+    // The lag item of a session for whose connection none was made.
     pub(crate) fn lagging(&self, session: SessionId) -> Option<Lag>
         ensures { result ≡ lagging session self.now.rows }
     {
@@ -380,14 +380,14 @@ impl Guests {
         }
     }
 
-    /// A lag item was made for the connection.
+    // A lag item was made for the connection.
     pub(crate) fn note_lag(&mut self, connection: u32)
         ensures { self.new ≡ with_lag_noted connection self.old }
     {
         note_lag_in(&mut self.rows, connection);
     }
 
-    /// The guest whose session is gone from this slot.
+    // The guest whose session is gone from this slot.
     pub(crate) fn gone_from<N: Naming>(&self, control: &Control<'_, N>, slot: Slot) -> Option<Guest>
         ensures { result ≡ find (is_gone_from (current control.now) slot) self.now.rows }
     {

@@ -24,7 +24,7 @@ pub struct Coming<L: Drop> {
     pub link: L,
 }
 
-/// What a bell gave back as full, or what is not yet offered: at most one of each.
+// What a bell gave back as full, or what is not yet offered: at most one of each.
 #[derive(Drop)]
 pub(crate) struct Kept<L: Drop, N: Naming> {
     pub(crate) reply: Option<Reply<N>>,
@@ -51,14 +51,14 @@ impl<L: Drop, N: Naming> Kept<L, N> {
         }
     }
 
-    /// Whether a reply is kept.
+    // Whether a reply is kept.
     pub(crate) fn has_reply(&self) -> bool
         ensures { result ≡ is_some self.now.reply }
     {
         self.reply.is_some()
     }
 
-    /// Whether a reply with a note is kept.
+    // Whether a reply with a note is kept.
     pub(crate) fn has_note(&self) -> bool
         ensures { result ≡ has_note self.now.reply }
     {
@@ -68,43 +68,43 @@ impl<L: Drop, N: Naming> Kept<L, N> {
         }
     }
 
-    /// Whether a lag item is kept.
+    // Whether a lag item is kept.
     pub(crate) fn has_lag(&self) -> bool
         ensures { result ≡ is_some self.now.lag }
     {
         self.lag.is_some()
     }
 
-    /// Whether a connection is kept.
+    // Whether a connection is kept.
     pub(crate) fn has_coming(&self) -> bool
         ensures { result ≡ is_some self.now.coming }
     {
         self.coming.is_some()
     }
 
-    /// Keeps a reply.
+    // Keeps a reply.
     pub(crate) fn keep_reply(&mut self, reply: Reply<N>)
         ensures { self.new ≡ record self.old { reply = Some reply } }
     {
         self.reply = Some(reply);
     }
 
-    /// Keeps a lag item.
+    // Keeps a lag item.
     pub(crate) fn keep_lag(&mut self, lag: Lag)
         ensures { self.new ≡ record self.old { lag = Some lag } }
     {
         self.lag = Some(lag);
     }
 
-    /// Keeps a connection.
+    // Keeps a connection.
     pub(crate) fn keep_coming(&mut self, connection: u32, link: L)
         ensures { self.new ≡ record self.old { coming = Some (record { connection = connection; link = link }) } }
     {
         self.coming = Some(Coming { connection, link });
     }
 
-    /// Offers each item that is kept once to its bell, and, where the bells are to be told, that no more
-    /// connections come. Answers whether a bell took one.
+    // Offers each item that is kept once to its bell, and, where the bells are to be notified, that no more
+    // connections come. Answers whether a bell took one.
     pub(crate) fn offer<R: Wait>(
         &mut self,
         rt: &R,

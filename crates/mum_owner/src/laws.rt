@@ -1,7 +1,7 @@
 //! What holds of an owner whatever its turns are, from its opening on, over any door. These functions do
 //! nothing: each contract is a theorem.
 
-ghost use Rattle.std.specs.Prelude.{◌≡◌, ◌≢◌, ◌++◌, ◌<◌, [], ℕ, Bool, IfSome, IsTrue, List, Option, Some, filter, length, map, option_to_list};
+ghost use Rattle.std.specs.Prelude.{◌≡◌, ◌≢◌, ◌↔◌, ◌++◌, ◌<◌, [], ℕ, Bool, false, IfSome, IsTrue, List, Option, Some, filter, length, map, option_to_list};
 ghost use Rattle.std.specs.List.{AllByRecursion, AllPairs, filter_map};
 ghost use Rattle.mum_outbox.specs.Facts.{QueueId};
 ghost use Rattle.mum_bans.specs.Book.{bans_of};
@@ -14,6 +14,8 @@ ghost use Rattle.mum_session.specs.Action.{action};
 ghost use Rattle.mum_session.specs.Machine.{Machine};
 ghost use Rattle.mum_session.specs.declared.action.Action.TheVariants.{Ask};
 ghost use Rattle.mum_session.specs.declared.command.Command.{Command};
+ghost use Rattle.mum_crew.specs.declared.role.Turn.TheVariants.{Done, Idle, Worked};
+ghost use Rattle.mum_owner.specs.Causes.{HasDoneNothing};
 ghost use Rattle.mum_owner.specs.Events.{ban_events};
 ghost use Rattle.mum_owner.specs.Facts.{OwnerFacts};
 ghost use Rattle.mum_owner.specs.Laws.{answered, command_in, connections_given, commands_given, commands_owned, commands_settled, commands_taken, connections_settled, handed, is_of_worker, is_other, items_taken, lags_made, leave_in, leaves_decided, numbers, puts_at, replies_made};
@@ -21,7 +23,7 @@ ghost use Rattle.mum_owner.specs.Noting.{EndsOnce, HasFurther, notes_given};
 ghost use Rattle.mum_owner.specs.Opened.{IsOpened};
 ghost use Rattle.mum_owner.specs.Given.{roll_of};
 ghost use Rattle.mum_owner.specs.Sessions.{HasLastSession, logins_in};
-ghost use Rattle.mum_owner.specs.Turned.{OwnerTurned, is_through};
+ghost use Rattle.mum_owner.specs.Turned.{OwnerTurned, has_ended, is_through};
 ghost use Rattle.mum_owner.specs.Written.{IsWrittenAs, is_login, version_with};
 
 use crate::desk::PENDING_LIMIT;
@@ -95,7 +97,7 @@ pub fn commands_are_given_once<D: Entrance>()
         (all : TurnsTo (OwnerTurned D.facts D.Peer.facts) opened turns owner) →
         filter_map command_in (items_taken owner.desk)
         ≡ commands_taken D.facts D.Peer.facts opened turns owner all }
-    // A login may wait for its slot, behind those that came before it.
+    // A login may wait for its slot, after those that came before it.
     ensures logins { (control : ControlFacts) (door : D) (connections : ℕ) (journal : Bool) (queues : List QueueId)
         (store : Option QueueId) (opened owner : OwnerFacts D D.Peer) (turns : List Turn) →
         IsOpened control door connections journal queues store opened →
@@ -148,7 +150,7 @@ pub fn sessions_are_of_logins<D: Entrance>()
         AllByRecursion (HasLastSession (replies_made D.facts D.Peer.facts opened turns owner all)) owner.guests.rows }
 {}
 
-/// The roll of accepted logins, with which each reply goes, grows by the logins that the replies tell of, in the order
+/// The roll of accepted logins, with which each reply goes, grows by the logins that the replies report, in the order
 /// in which they are made, and by nothing else.
 pub fn logins_are_of_the_replies<D: Entrance>()
     ensures { (old new : OwnerFacts D D.Peer) (turns : List Turn) →
@@ -164,7 +166,7 @@ pub fn each_note_has_a_further_one<D: Entrance>()
         AllByRecursion (λ note. HasFurther note side new) (notes_given D.facts D.Peer.facts old turn new turned) }
 {}
 
-/// The bell of the store got notes, and that none comes any more once, behind all of them.
+/// The bell of the store got notes, and that none comes any more once, after all of them.
 pub fn last_is_last<D: Entrance>()
     ensures last { (control : ControlFacts) (door : D) (connections : ℕ) (journal : Bool) (queues : List QueueId)
         (store : Option QueueId) (opened owner : OwnerFacts D D.Peer) (turns : List Turn) →
@@ -179,8 +181,22 @@ pub fn last_is_last<D: Entrance>()
         IfSome owner.archive (λ side. IsTrue side.is_told → IsTrue (is_through owner)) }
 {}
 
+/// Each answer of a turn shows its cause.
+pub fn answers_have_causes<D: Entrance>()
+    // `Idle` only where the turn did nothing, but for a leave that was tried again and found no memory, and the owner is
+    // not done.
+    ensures idle { (old new : OwnerFacts D D.Peer) → OwnerTurned D.facts D.Peer.facts old Idle new →
+        HasDoneNothing old new × (has_ended new ≡ false) }
+    // `Worked` only where it did something.
+    ensures worked { (old new : OwnerFacts D D.Peer) → 0 < length old.bells →
+        OwnerTurned D.facts D.Peer.facts old Worked new → ¬ HasDoneNothing old new }
+    // `Done` exactly where no connections come any more, each has closed, and each bell was notified of that.
+    ensures done { (old new : OwnerFacts D D.Peer) (answer : Turn) →
+        OwnerTurned D.facts D.Peer.facts old answer new → (answer ≡ Done) ↔ IsTrue (has_ended new) }
+{}
+
 /// A command is written down as a frame of the type of the frame that asked for it, with the version that its
-/// connection had told before where it is a login.
+/// connection had sent before where it is a login.
 pub fn frames_have_the_type_that_was_sent()
     ensures { (machine : Machine) (kind : ℕ) (payload : List ℕ) (command : Command) →
         action machine kind payload ≡ Ask command →

@@ -18,7 +18,7 @@ fn is_join(what: &Asked) -> bool
     matches!(what, Asked::User(UserMessage::Join(_, _)))
 }
 
-/// Whether a command is the login of a connection that has no session.
+// Whether a command is the login of a connection that has no session.
 pub(crate) fn is_login(command: &Command) -> bool
     ensures { result ≡ is_login command.now }
 {
@@ -28,15 +28,15 @@ pub(crate) fn is_login(command: &Command) -> bool
     }
 }
 
-/// Whether a command reports that its connection ended.
+// Whether a command reports that its connection ended.
 pub(crate) fn is_leave(what: &Asked) -> bool
     ensures { result ≡ is_leave what.now }
 {
     matches!(what, Asked::User(UserMessage::Leave))
 }
 
-/// Logins in the order in which they came, each of which was asked for. Each connection waits for its reply, so there is at most one of each,
-/// and there is room for one of each that may be open.
+// Logins in the order in which they came, each of which was asked for. Each connection waits for its reply, so there is at most one of each,
+// and there is room for one of each that may be open.
 #[derive(Drop)]
 pub(crate) struct Logins {
     waiting: VecDeque<Command>,
@@ -67,21 +67,21 @@ impl Logins {
         })
     }
 
-    /// Whether none waits.
+    // Whether none waits.
     pub(crate) fn are_none(&self) -> bool
         ensures { result ≡ (length self.now == 0) }
     {
         self.waiting.is_empty()
     }
 
-    /// Whether one more may wait.
+    // Whether one more may wait.
     pub(crate) fn have_room(&self) -> bool
         ensures { result ≡ nat_lt (length self.now) CONNECTION_LIMIT }
     {
         self.waiting.len() < CONNECTION_LIMIT
     }
 
-    /// One more waits, behind the others.
+    // One more waits, after the others.
     pub(crate) fn wait(&mut self, login: Command)
         requires room { length self.old < CONNECTION_LIMIT }
         requires asked { WasAsked login.what }
@@ -90,7 +90,7 @@ impl Logins {
         self.waiting.push_back_reserved(login);
     }
 
-    /// The first that waits goes.
+    // The first that waits goes.
     pub(crate) fn next(&mut self) -> Option<Command>
         ensures first { MatchOption result ((self.old ≡ []) × (self.new ≡ [])) (λ login. self.old ≡ login ∷ self.new) }
         ensures asked { IfSome result (λ login. WasAsked login.what) }

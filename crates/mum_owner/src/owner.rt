@@ -97,7 +97,7 @@ pub struct Owner<'a, D: Entrance, K: Clock, N: Serving, R: Wait + Copy> {
     scribe: Scribe,
     warden: Warden<K>,
     archive: Archive<N>,
-    // No more connections come, which each bell is to be told.
+    // No more connections come, of which each bell is to be notified.
     is_ending: bool,
 }
 
@@ -193,7 +193,8 @@ fn empty_for<N: Naming, R: Wait>(rt: &R, control: &mut Control<'_, N>, session: 
 fn take_in<L: Link, N: Naming>(guests: &mut Guests, kept: &mut Kept<L, N>, link: L)
     requires { IsTrue (has_room guests.old) }
     ensures guests { guests.new ≡ entered (L.facts link).address guests.old }
-    ensures kept { kept.new ≡ record kept.old { coming = Some (record { connection = guests.old.given + 1; link = link }) } }
+    ensures kept { kept.new
+        ≡ record kept.old { coming = Some (record { connection = guests.old.given + 1; link = link }) } }
 {
     let address = link.address();
     let connection = guests.enter(address);
@@ -224,7 +225,8 @@ impl<'a, D: Entrance, K: Clock, N: Serving, R: Wait + Copy> Owner<'a, D, K, N, R
         requires bells { 0 < length bells.items }
         ensures owner { IfOk result (IsOpened control.entry door connections journal (queues bells.items) (queue_of store)) }
         ensures desk { IfOk result (λ owner. IsNewPass desk owner.desk.pass) }
-        ensures clock { IfOk result (λ owner. (owner.warden.last ≡ K.last clock) × (owner.warden.calls ≡ K.calls clock)) }
+        ensures clock { IfOk result
+            (λ owner. (owner.warden.last ≡ K.last clock) × (owner.warden.calls ≡ K.calls clock)) }
         ensures back { IfErr result (λ back. (back.0 ≡ door) × (back.1 ≡ clock)) }
     {
         let (guests, bells, logins) = match rooms_of(alloc, bells, connections) {
@@ -531,7 +533,8 @@ impl<'a, D: Entrance, K: Clock, N: Serving, R: Wait + Copy> Owner<'a, D, K, N, R
     // Gives or refuses a login that waited, with the session that is kept for its connection. It is dropped where
     // that is not open any more.
     fn give_login(&mut self, login: Command)
-        ensures { MatchOption (owned self.old.guests.rows login) (self.new ≡ self.old) (λ own. IsGivenOrRefused self.old own self.new) }
+        ensures { MatchOption (owned self.old.guests.rows login) (self.new ≡ self.old)
+            (λ own. IsGivenOrRefused self.old own self.new) }
     {
         if let Some(own) = self.guests.owned(login) {
             self.give_or_refuse(own);
@@ -736,7 +739,7 @@ impl<'a, D: Entrance, K: Clock, N: Serving, R: Wait + Copy> Owner<'a, D, K, N, R
         }
     }
 
-    // Where no more connections come and each was handed over, the bells are told from the next turn on.
+    // Where no more connections come and each was handed over, the bells are notified from the next turn on.
     fn end(&mut self)
         ensures { self.new ≡ ended self.old }
     {
@@ -757,7 +760,7 @@ impl<'a, D: Entrance, K: Clock, N: Serving, R: Wait + Copy> Owner<'a, D, K, N, R
     /// One turn. It offers each item that it keeps to its bell; gives a kept leave again, or a login that
     /// waited and whose connection is open, or takes an item from the desk; publishes what is not published; offers
     /// the store, where there is one, a further note where one was given, or, once none is to come, that; posts a
-    /// notice; asks the door; and, where no more connections come, has that told to each worker. It does each at
+    /// notice; asks the door; and, where no more connections come, has that sent to each worker. It does each at
     /// most once, and where it may. What it was opened with stays, and it is done exactly where no more connections
     /// come, a `Closed` was taken for each, each bell took that no more come, and that of the store that no note comes
     /// any more.
@@ -805,7 +808,8 @@ impl<'a, D: Entrance, K: Clock, N: Serving, R: Wait + Copy> Owner<'a, D, K, N, R
     /// The door, the clock, the totals, the state after all accepted edits, and the entries of the journal.
     pub fn finish(self) -> OwnerEnd<D, K>
         ensures door { result.door ≡ self.entry.doorway.door }
-        ensures clock { (K.last result.clock ≡ self.entry.warden.last) × (K.calls result.clock ≡ self.entry.warden.calls) }
+        ensures clock { (K.last result.clock ≡ self.entry.warden.last)
+            × (K.calls result.clock ≡ self.entry.warden.calls) }
         ensures connections { result.connections ≡ self.entry.guests.given }
         ensures accepted { result.accepted ≡ length (appended self.entry.control.publisher) }
         ensures state { result.state ≡ current self.entry.control }

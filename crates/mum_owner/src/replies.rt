@@ -9,7 +9,7 @@ use mum_base::{Octets, ReplyEnd};
 use mum_published::{Naming, Reply, Roll};
 use std::alloc::Global;
 
-/// Memory ran out before anything was decided.
+// Memory ran out before anything was decided.
 pub(crate) fn refusal<N: Naming>(alloc: Global, connection: u32, roll: Roll) -> Reply<N>
     requires { roll.book ≡ N.opening.roll }
     ensures { result ≡ refusal roll.log connection }
@@ -24,7 +24,7 @@ pub(crate) fn refusal<N: Naming>(alloc: Global, connection: u32, roll: Roll) -> 
     )
 }
 
-/// A login is refused, by the frame that says so.
+// A login is refused, by the frame that says so.
 pub(crate) fn ban_reply<N: Naming>(connection: u32, wire: Octets, roll: Roll) -> Reply<N>
     requires wire { wire ≡ banned_frame }
     requires roll { roll.book ≡ N.opening.roll }
@@ -33,7 +33,7 @@ pub(crate) fn ban_reply<N: Naming>(connection: u32, wire: Octets, roll: Roll) ->
     Reply::new(connection, ReplyEnd::Rejected, None, wire, false, roll)
 }
 
-/// A list of bans was decided, and is answered by these bytes.
+// A list of bans was decided, and is answered by these bytes.
 pub(crate) fn list_reply<N: Naming>(connection: u32, wire: Octets, roll: Roll) -> Reply<N>
     requires { roll.book ≡ N.opening.roll }
     ensures { result ≡ list_reply roll.log connection wire }

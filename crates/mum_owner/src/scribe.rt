@@ -12,7 +12,7 @@ use mum_session::Command;
 use std::alloc::Global;
 use std::marker::Model;
 
-/// The entries of a journal, where one was asked for; how many edits were accepted; and whether memory ran out.
+// The entries of a journal, where one was asked for; how many edits were accepted; and whether memory ran out.
 #[derive(Drop)]
 pub(crate) struct Scribe {
     alloc: Global,
@@ -91,8 +91,8 @@ impl Scribe {
         }
     }
 
-    /// Takes the memory for what is to be written down of a command, before it is decided. There is nothing to
-    /// take where no journal was asked for.
+    // Takes the memory for what is to be written down of a command, before it is decided. There is nothing to
+    // take where no journal was asked for.
     pub(crate) fn prepare(&mut self, command: &Command) -> Result<(), OutOfMemory>
         ensures ok { OnOk result (self.new ≡ record self.old { draft = prepared self.old.is_asked command.now }) }
         ensures err { OnErr result (self.new ≡ record self.old { draft = None }) }
@@ -107,7 +107,7 @@ impl Scribe {
         Ok(())
     }
 
-    /// Memory ran out before a command was decided.
+    // Memory ran out before a command was decided.
     pub(crate) fn refuse(&mut self)
         ensures { self.new ≡ refused self.old }
     {
@@ -115,7 +115,7 @@ impl Scribe {
         self.no_memory = true;
     }
 
-    /// A command for which this is prepared had this outcome, and memory ran out for its reply or did not.
+    // A command for which this is prepared had this outcome, and memory ran out for its reply or did not.
     pub(crate) fn settle(&mut self, connection: u32, mark: Option<Mark>, no_memory: bool)
         ensures { self.new ≡ recorded connection mark no_memory self.old }
     {
@@ -125,7 +125,7 @@ impl Scribe {
         self.no_memory = self.no_memory || (no_memory || mark.is_none());
     }
 
-    /// The number of accepted edits, the entries, and whether memory ran out.
+    // The number of accepted edits, the entries, and whether memory ran out.
     pub(crate) fn close(self) -> (u64, Vec<ControlEntry>, bool)
         ensures accepted { result.0 ≡ self.accepted }
         ensures entries { result.1.items ≡ self.entries }

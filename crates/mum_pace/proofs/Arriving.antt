@@ -1,8 +1,5 @@
 -- At a door with a rate no more connections come in than it allows.
-use Rattle.std.proofs.Common.{◌≡◌, ℕ, ◌+◌, ◌-◌, ◌*◌, ◌^◌, ◌<◌, ◌≤◌, List, [], ◌∷◌, length, max, subst, arith}
-use Rattle.mum_pace.specs.Arrivals.{ArrivalsState, ComeIn, arrivals_at, counts_one, last_of}
-use Rattle.mum_pace.specs.Meters.{used_with}
-use Rattle.mum_pace.specs.declared.pace.Rate.{Rate}
+use Rattle.mum_pace.proofs.Common.{◌≡◌, ℕ, ◌+◌, ◌-◌, ◌*◌, ◌^◌, ◌<◌, ◌≤◌, List, [], ◌∷◌, length, max, subst, arith, ArrivalsState, ComeIn, arrivals_at, counts_one, last_of, used_with, Rate}
 use Rattle.mum_pace.proofs.Kept.{IsGivenBack, at_most, one_more}
 
 no_earlier : (rate : Rate) (state : ArrivalsState) (times : List ℕ) → ComeIn rate state times → state.milliseconds ≤ last_of state.milliseconds times

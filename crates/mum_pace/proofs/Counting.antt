@@ -1,13 +1,5 @@
 -- A meter counts what was read run by run as it does byte by byte.
-use Rattle.std.proofs.Common.{◌≡◌, ℕ, ◌+◌, ◌<◌, ◌≤◌, ◌&&◌, Bool, true, false, zero, suc, inl, inr, List, [], ◌∷◌, ◌++◌, length, drop, refl, sym, ap, ◌∙◌, arith, ◌^◌}
-use Rattle.std.proofs.lemmas.Bool.{cases_eq, eq-eqb, ne_eqb}
-use Rattle.mum_pace.specs.declared.frames.Cost.{Cost}
-use Rattle.mum_pace.specs.declared.frames.Front.{Front}
-use Rattle.mum_pace.specs.declared.meter.Counted.{Counted}
-use Rattle.mum_pace.specs.declared.pace.Pace.{Pace}
-use Rattle.mum_pace.specs.Places.{Place, after_byte, after_bytes, are_of_pings, cost_at_header, cost_by, cost_in}
-use Rattle.mum_pace.specs.Fronts.{IsFront}
-use Rattle.mum_pace.specs.Meters.{MeterState, after_read, used_with}
+use Rattle.mum_pace.proofs.Common.{◌≡◌, ℕ, ◌+◌, ◌<◌, ◌≤◌, ◌&&◌, Bool, true, false, zero, suc, inl, inr, List, [], ◌∷◌, ◌++◌, length, drop, refl, sym, ap, ◌∙◌, arith, ◌^◌, cases_eq, eq-eqb, ne_eqb, Cost, Front, Counted, Pace, Place, after_byte, after_bytes, are_of_pings, cost_at_header, cost_by, cost_in, IsFront, MeterState, after_read, used_with}
 
 -- a meter by its parts
 abbrev pub state : Pace → ℕ → Place → ℕ → ℕ → MeterState

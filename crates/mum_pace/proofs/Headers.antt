@@ -1,12 +1,7 @@
 -- What a header says.
-use Rattle.std.proofs.Common.{◌≡◌, ℕ, ◌+◌, ◌*◌, List, [], ◌++◌, length, append-nil, get_or, take, drop, sym, ap, ◌∙◌, arith}
-use Rattle.std.proofs.lemmas.List.{get_or-drop, get_or-take, length-drop}
-use Rattle.std.proofs.Math.ListN.{drop_of_length-le}
-use borrow.Rule.Slice.PartMut.{post_of, put_mid}
-use Rattle.std.specs.Int.{w16, w32, from_be_bytes}
-use Rattle.mum_pace.specs.Places.{Place, begun}
+use Rattle.mum_pace.proofs.Common.{◌≡◌, ℕ, ◌+◌, ◌*◌, List, [], ◌++◌, length, append-nil, get_or, take, drop, sym, ap, ◌∙◌, arith, get_or-drop, get_or-take, length-drop, drop_of_length-le, post_of, put_mid, w16, w32, from_be_bytes, Place, begun}
 
--- the place behind a header of this type and length
+-- the place after a header of this type and length
 abbrev pub behind : ℕ → ℕ → Place
 behind kind payload = record { header = []; kind = kind; payload = payload; left = payload }
 
@@ -31,7 +26,7 @@ unfolding begun
 begun-is header kind payload e f =
     ap (λ (n : ℕ). behind n payload) (e ∙ sym (kind_is header)) ∙ ap (behind (from_be_bytes w16 (take 2 header))) (f ∙ sym (payload_is header))
 
--- what is written to the end of a list stands behind its front
+-- what is written to the end of a list comes after its front
 pub written_to_the_end : (xs ys : List ℕ) (a k : ℕ) → a + k ≡ length xs → put_mid a k xs ys ≡ take a xs ++ ys
 written_to_the_end xs ys a k e =
     let none : post_of a k xs ≡ [] = drop_of_length-le (drop a xs) {i = k} (omega (arith, length-drop a xs)) in

@@ -1,18 +1,6 @@
 -- Pace is kept, somebody is read, and in the long run the rates hold.
-use Rattle.std.proofs.Common.{◌≡◌, ℕ, ◌+◌, ◌-◌, ◌*◌, ◌/◌, ◌^◌, ◌<◌, ◌≤◌, Bool, true, false, List, [], ◌∷◌, length, max, mul-le-mul_right, sym, ap, subst, ◌∙◌, arith, inl, inr, if◌then◌else◌}
-use Rattle.std.proofs.lemmas.Bool.{cases_lt}
-use Rattle.mum_pace.specs.declared.frames.Cost.{Cost}
-use Rattle.mum_pace.specs.declared.pace.Pace.{Pace}
-use Rattle.mum_pace.specs.declared.pace.Pace.TheVariants.{Limited, Unlimited}
-use Rattle.mum_pace.specs.declared.pace.Rate.{Rate}
-use Rattle.mum_pace.specs.Laws.{AreWithin, IsNotZero, KeepAllowances, KeepsPace, Read, all_bytes, asked_and_read, last_time}
-use Rattle.mum_pace.specs.Meters.{MeterState, allowance_by, allowance_of, at_time, given_back, room, used_with}
-use Rattle.mum_pace.specs.Pieces.{begins_piece, pieces_in}
-use Rattle.mum_pace.specs.Places.{Place, cost_in, is_message, length_within, passed, pieces_left, pieces_to_come}
-use Rattle.mum_pace.proofs.Counting.{state}
-use Rattle.mum_pace.proofs.OnePiece.{few_is_within, pieces_in-next}
-use Rattle.mum_pace.proofs.Reach.{IsPlace-after_bytes, no_pieces, room_within, within_frames, within_pieces}
-use Rattle.mum_pace.proofs.Runs.{cost_in-append, pieces-none}
+use Rattle.mum_pace.proofs.Common.{◌≡◌, ℕ, ◌+◌, ◌-◌, ◌*◌, ◌/◌, ◌^◌, ◌<◌, ◌≤◌, Bool, true, false, List, [], ◌∷◌, length, max, mul-le-mul_right, sym, ap, subst, ◌∙◌, arith, inl, inr, if◌then◌else◌, cases_lt, Cost, Pace, Limited, Unlimited, Rate, AreWithin, IsNotZero, KeepAllowances, KeepsPace, Read, all_bytes, asked_and_read, last_time, MeterState, allowance_by, allowance_of, at_time, given_back, room, used_with, begins_piece, pieces_in, Place, cost_in, is_message, length_within, passed, pieces_left, pieces_to_come}
+use Rattle.mum_pace.proofs.{Counting.state, OnePiece.few_is_within, OnePiece.pieces_in-next, Reach.IsPlace-after_bytes, Reach.no_pieces, Reach.room_within, Reach.within_frames, Reach.within_pieces, Runs.cost_in-append, Runs.pieces-none}
 
 -- ---- pace is kept
 
@@ -119,7 +107,7 @@ payload_is_read meter messages voice e other =
 times_joined : (some more all each : ℕ) → some + more ≡ all → some * each + more * each ≡ all * each
 times_joined some more all each e = omega (arith, ap (λ (n : ℕ). n * each) e)
 
--- the time that a read and those behind it have to give back
+-- the time that a read and those after it have to give back
 pub times : (start here last each : ℕ) → here ≤ last → (here - start) * each + (last - max start here) * each ≡ (last - start) * each
 times start here last each le = times_joined (here - start) (last - max start here) (last - start) each (omega arith)
 
@@ -148,7 +136,7 @@ no_earlier time meter [] keep = omega arith
 no_earlier time meter (read ∷ reads) keep =
     omega (arith, keep.0, no_earlier read.time (asked_and_read meter read.time read.bytes) reads keep.2)
 
--- so much is used up, and so many frames come in a time: they are no more than a rate allows at once and gives back
+-- so much is used up, and n frames come in a time: they are no more than a rate allows at once and gives back
 abbrev pub IsGivenBack : Rate → ℕ → ℕ → ℕ → Type 0
 IsGivenBack rate used milliseconds frames = used + frames * 1000 ≤ rate.at_once * 1000 + milliseconds * rate.each_second
 

@@ -1,3 +1,4 @@
+mod Common
 pub mod Arriving
 pub mod Counting
 pub mod Headers

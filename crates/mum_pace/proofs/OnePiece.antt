@@ -1,8 +1,5 @@
 -- The pieces of a message, one by one.
-use Rattle.std.proofs.Common.{◌≡◌, ℕ, ◌+◌, ◌-◌, ◌*◌, ◌/◌, ◌%◌, ◌<◌, ◌≤◌, ◌==◌, min, refl, arith, inl, inr, if◌then◌else◌}
-use Rattle.std.specs.Int.{div_ceil}
-use Rattle.std.proofs.lemmas.Bool.{cases_lt, cases_eq, lt-ltb, le-ltb, eq-eqb, ne_eqb}
-use Rattle.mum_pace.specs.Pieces.{begins_piece, bytes_within, pieces_in}
+use Rattle.mum_pace.proofs.Common.{◌≡◌, ℕ, ◌+◌, ◌-◌, ◌*◌, ◌/◌, ◌%◌, ◌<◌, ◌≤◌, ◌==◌, min, refl, arith, inl, inr, if◌then◌else◌, div_ceil, cases_lt, cases_eq, lt-ltb, le-ltb, eq-eqb, ne_eqb, begins_piece, bytes_within, pieces_in}
 
 -- ---- where a piece begins
 

@@ -1,13 +1,6 @@
 -- Whatever bytes come, as many as are allowed find room.
-use Rattle.std.proofs.Common.{◌≡◌, ℕ, zero, suc, ◌+◌, ◌-◌, ◌*◌, ◌<◌, ◌≤◌, ◌==◌, ◌&&◌, ◌||◌, not, nat_lt, Bool, true, false, List, [], ◌∷◌, ◌++◌, length, min, refl, sym, ap, subst, ◌∙◌, arith, inl, inr, ◌⊎◌, if◌then◌else◌}
-use Rattle.std.proofs.lemmas.Bool.{cases_lt, cases_eq, cond-true, cond-false, lt-ltb, le-ltb, ne_eqb}
-use Rattle.mum_pace.specs.declared.frames.Cost.{Cost}
-use Rattle.mum_pace.specs.Laws.{IsPlace}
-use Rattle.mum_pace.specs.Pieces.{begins_piece, bytes_within, pieces_in}
-use Rattle.mum_pace.specs.Places.{Place, begun, after_byte, after_bytes, one_if, is_message, passed, cost_of_header, cost_of_payload, cost_of, cost_in, length_within, pieces_left, pieces_to_come}
-use Rattle.mum_pace.proofs.Headers.{behind}
-use Rattle.mum_pace.proofs.OnePiece.{bytes_within-is, pieces_in-is, pieces_in-next, within_is_few}
-use Rattle.mum_pace.proofs.Runs.{cost_ends, cost_goes_on, cost_in_header, cost_in_payload, gathered, header_ends, header_goes_on, in_header, in_payload, length-push, pieces-next, pieces-none}
+use Rattle.mum_pace.proofs.Common.{◌≡◌, ℕ, zero, suc, ◌+◌, ◌-◌, ◌*◌, ◌<◌, ◌≤◌, ◌==◌, ◌&&◌, ◌||◌, not, nat_lt, Bool, true, false, List, [], ◌∷◌, ◌++◌, length, min, refl, sym, ap, subst, ◌∙◌, arith, inl, inr, ◌⊎◌, if◌then◌else◌, cases_lt, cases_eq, cond-true, cond-false, lt-ltb, le-ltb, ne_eqb, Cost, IsPlace, begins_piece, bytes_within, pieces_in, Place, begun, after_byte, after_bytes, one_if, is_message, passed, cost_of_header, cost_of_payload, cost_of, cost_in, length_within, pieces_left, pieces_to_come}
+use Rattle.mum_pace.proofs.{Headers.behind, OnePiece.bytes_within-is, OnePiece.pieces_in-is, OnePiece.pieces_in-next, OnePiece.within_is_few, Runs.cost_ends, Runs.cost_goes_on, Runs.cost_in_header, Runs.cost_in_payload, Runs.gathered, Runs.header_ends, Runs.header_goes_on, Runs.in_header, Runs.in_payload, Runs.length-push, Runs.pieces-next, Runs.pieces-none}
 
 -- ---- places
 
@@ -67,7 +60,7 @@ within_reach place messages voice =
 
 -- ---- one byte
 
--- a byte of this cost has room, and behind it at least as many find room as before, without it
+-- a byte of this cost has room, and after it at least as many find room as before, without it
 abbrev pub HasRoom : ℕ → Cost → Place → ℕ → ℕ → Type 0
 HasRoom before cost after messages voice =
     (cost.messages ≤ messages) × (cost.voice ≤ voice) × (before ≤ reach after (messages - cost.messages) (voice - cost.voice) + 1)

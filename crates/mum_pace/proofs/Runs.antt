@@ -1,13 +1,5 @@
 -- A run of bytes, all of one payload or of one header, is its bytes in turn.
-use Rattle.std.proofs.Common.{◌≡◌, ℕ, zero, suc, ◌+◌, ◌-◌, ◌<◌, ◌≤◌, ◌&&◌, ◌||◌, nat_lt, Bool, true, false, List, [], ◌∷◌, ◌++◌, length, take, drop, refl, sym, ap, subst, ◌∙◌, append_assoc, append-nil, add_assoc, zero-add, arith, if◌then◌else◌}
-use Rattle.std.proofs.lemmas.Bool.{lt-ltb, eq-eqb, ne_eqb}
-use Rattle.std.proofs.lemmas.List.{length-append}
-use Rattle.std.proofs.Math.Seq.{drop-length, take-length}
-use Rattle.mum_pace.specs.declared.frames.Cost.{Cost}
-use Rattle.mum_pace.specs.declared.frames.Front.{Front}
-use Rattle.mum_pace.specs.Places.{Place, begun, after_header, after_byte_by, after_byte, after_bytes, one_if, is_message, passed, nothing, cost_of_header, cost_of_payload, cost_at_header, cost_by, cost_of, plus, cost_in, is_in_a_ping, goes_on, are_of_pings, pieces_to_come}
-use Rattle.mum_pace.specs.Fronts.{IsFront}
-use Rattle.mum_pace.specs.Pieces.{begins_piece, pieces_in}
+use Rattle.mum_pace.proofs.Common.{◌≡◌, ℕ, zero, suc, ◌+◌, ◌-◌, ◌<◌, ◌≤◌, ◌&&◌, ◌||◌, nat_lt, Bool, true, false, List, [], ◌∷◌, ◌++◌, length, take, drop, refl, sym, ap, subst, ◌∙◌, append_assoc, append-nil, add_assoc, zero-add, arith, if◌then◌else◌, lt-ltb, eq-eqb, ne_eqb, length-append, drop-length, take-length, Cost, Front, Place, begun, after_header, after_byte_by, after_byte, after_bytes, one_if, is_message, passed, nothing, cost_of_header, cost_of_payload, cost_at_header, cost_by, cost_of, plus, cost_in, is_in_a_ping, goes_on, are_of_pings, pieces_to_come, IsFront, begins_piece, pieces_in}
 use Rattle.mum_pace.proofs.OnePiece.{pieces_in-next, pieces_in-grow}
 
 -- ---- sums of costs
@@ -101,7 +93,7 @@ pieces-none place =
       | false ↦ refl
     ]
 
--- what so many pieces cost
+-- what n pieces cost
 abbrev pub cost_of_pieces : ℕ → Cost
 cost_of_pieces pieces = record { frames = 0; messages = pieces; voice = 0 }
 
@@ -150,7 +142,7 @@ payload_pings (suc count) rest place (byte ∷ bytes) e apart le =
 
 -- ---- runs of a header
 
--- so many bytes more of the next header
+-- n more bytes of the next header
 abbrev pub gathered : Place → List ℕ → Place
 gathered place header = record place { header = header }
 

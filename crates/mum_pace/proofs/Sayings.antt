@@ -1,17 +1,5 @@
 -- What the texts of a pace say.
-use Rattle.std.proofs.Common.{◌≡◌, ◌≢◌, ℕ, ◌^◌, ◌<◌, ◌==◌, ◌&&◌, nat_lt, Bool, true, false, List, length, Option, Some, None, Result, Ok, Err, MatchOption, refl, sym, ap, ◌∙◌, arith, inl, inr, if◌then◌else◌, Bor}
-use Rattle.std.proofs.lemmas.Bool.{and_parts, and_from, cases_eq, cond-true, cond-false, lt-ltb, le-ltb, ltb-true, eq-eqb, ne_eqb, false_from_ne_true}
-use Rattle.std.proofs.lemmas.Str.Parse.{IsNumeralModel, numerals_by_value, tells_all_ascii_digits}
-use Rattle.std.proofs.lemmas.Str.Pattern.{IsSplitOnceResult, split_once_first}
-use Rattle.std.specs.List.{after_first, position_or_len}
-use Rattle.std.specs.Str.{all_ascii_digits, bytes_eq}
-use Rattle.std.specs.Str.Parse.{IsNumeral, ParsesUnsigned, digits_value, without_leading_plus}
-use Rattle.std.specs.Option.{option_and_then}
-use Rattle.std.specs.Prelude.{codes}
-use Rattle.std.specs.Result.{OkIff, result_ok}
-use Rattle.mum_pace.specs.declared.pace.Pace.TheVariants.{Unlimited}
-use Rattle.mum_pace.specs.declared.pace.Rate.{Rate}
-use Rattle.mum_pace.specs.Texts.{are_digits, halves, number_of, number_of_digits, pace_of, pace_with, rate_of, rate_with}
+use Rattle.mum_pace.proofs.Common.{◌≡◌, ◌≢◌, ℕ, ◌^◌, ◌<◌, ◌==◌, ◌&&◌, nat_lt, Bool, true, false, List, length, Option, Some, None, Result, Ok, Err, MatchOption, refl, sym, ap, ◌∙◌, arith, inl, inr, if◌then◌else◌, Bor, and_parts, and_from, cases_eq, cond-true, cond-false, lt-ltb, le-ltb, ltb-true, eq-eqb, ne_eqb, false_from_ne_true, IsNumeralModel, numerals_by_value, tells_all_ascii_digits, IsSplitOnceResult, split_once_first, after_first, position_or_len, all_ascii_digits, bytes_eq, IsNumeral, ParsesUnsigned, digits_value, without_leading_plus, option_and_then, codes, OkIff, result_ok, Unlimited, Rate, are_digits, halves, number_of, number_of_digits, pace_of, pace_with, rate_of, rate_with}
 
 -- ---- two halves
 

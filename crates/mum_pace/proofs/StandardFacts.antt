@@ -1,13 +1,5 @@
 -- Worked paces, so that a wrong rule in the specs does not check.
-use Rattle.std.proofs.Common.{◌≡◌, ℕ, ◌+◌, ◌-◌, ◌*◌, ◌^◌, true, false, List, [], ◌∷◌, ◌++◌, Some, None, refl}
-use Rattle.std.specs.Prelude.{codes}
-use Rattle.mum_pace.specs.declared.pace.Pace.TheVariants.{Limited, Unlimited}
-use Rattle.mum_pace.specs.Meters.{MeterState, after_read, allowance_of, at_time, counted, new_meter}
-use Rattle.mum_pace.specs.Pieces.{begins_piece, bytes_within, pieces_in}
-use Rattle.mum_pace.specs.Places.{Place, start, begun, after_header, after_byte_by, after_bytes, cost_at_header, cost_by, cost_in, are_of_pings, length_within, payload_under_way}
-use Rattle.mum_pace.specs.Reserved.{bytes_for}
-use Rattle.mum_pace.specs.Texts.{halves, number_of, rate_of, pace_of, usual_pace}
-use Rattle.mum_pace.specs.Waits.{has_waited, waits_since}
+use Rattle.mum_pace.proofs.Common.{◌≡◌, ℕ, ◌+◌, ◌-◌, ◌*◌, ◌^◌, true, false, List, [], ◌∷◌, ◌++◌, Some, None, refl, codes, Limited, Unlimited, MeterState, after_read, allowance_of, at_time, counted, new_meter, begins_piece, bytes_within, pieces_in, Place, start, begun, after_header, after_byte_by, after_bytes, cost_at_header, cost_by, cost_in, are_of_pings, length_within, payload_under_way, bytes_for, halves, number_of, rate_of, pace_of, usual_pace, has_waited, waits_since}
 
 -- ---- frames without a payload: a message, one of voice, a Ping
 
@@ -92,7 +84,7 @@ begun_text = then half (0 ∷ 0 ∷ 100 ∷ 7 ∷ 7 ∷ [])
 abbrev third : Place
 third = record { header = []; kind = 11; payload = 5000; left = 2006 }
 
--- in the longest message, so many bytes behind the 128 KiB of a short frame's payload
+-- in the longest message, n bytes after the 128 KiB of a short frame's payload
 abbrev behind_short : ℕ → Place
 behind_short more = record { header = []; kind = 11; payload = 0x7f_ffff; left = 0x7f_ffff - (0x2_0000 + more) }
 

@@ -1,16 +1,5 @@
 -- How each step of a link keeps what all of them hold together.
-use Rattle.std.proofs.Common.{◌≡◌, ℕ, zero, suc, ◌+◌, ◌-◌, ◌%◌, ◌^◌, ◌<◌, ◌≤◌, eqb, List, [], ◌∷◌, ◌++◌, get_or, set, sym, ap, refl, subst, ◌∙◌, arith, length-set, get_or-set_same, eq-eqb, ne_eqb}
-use Rattle.std.specs.List.{sum}
-use Rattle.std.proofs.lemmas.List.Sums.{sum_by-cons, sum_by_push}
-use mathlib.Core.Logic.{dite}
-use mathlib.Core.Option.{none, some, some-injective, some-ne-none}
-use native.Mathlib.Decide.{ℕ_discrete}
-use lib.ListN.{get_elem?}
-use prog.Atomic.{either}
-use Rattle.atomic_table.specs.Table.{Allows, Enters, Me, State, keeps, step, stepped}
-use Rattle.atomic_table.proofs.Lists.{set_again}
-use Rattle.mum_pace.specs.Allowance.{Comes, Exchanges, GivesBack, IsHeldTogether}
-use Rattle.mum_pace.specs.declared.long.TheConstants.{LONG_FRAMES_LIMIT}
+use Rattle.mum_pace.proofs.Common.{◌≡◌, ℕ, zero, suc, ◌+◌, ◌-◌, ◌%◌, ◌^◌, ◌<◌, ◌≤◌, eqb, List, [], ◌∷◌, ◌++◌, get_or, set, sym, ap, refl, subst, ◌∙◌, arith, length-set, get_or-set_same, eq-eqb, ne_eqb, sum, sum_by-cons, sum_by_push, dite, none, some, some-injective, some-ne-none, ℕ_discrete, get_elem?, either, Allows, Enters, Me, State, keeps, step, stepped, set_again, Comes, Exchanges, GivesBack, IsHeldTogether, LONG_FRAMES_LIMIT}
 
 cons : (x : ℕ) (xs : List ℕ) → sum (x ∷ xs) ≡ x + sum xs
 cons x xs = sum_by-cons (λ (n : ℕ). n) x xs

@@ -1,15 +1,6 @@
 -- A meter as it is used, by its own clock.
-use Rattle.std.proofs.Common.{◌≡◌, ℕ, ◌+◌, ◌-◌, ◌*◌, ◌^◌, ◌<◌, ◌≤◌, List, [], ◌∷◌, Option, Some, None, max, sym, ap, subst, arith}
-use Rattle.mum_pace.specs.declared.frames.Cost.{Cost}
-use Rattle.mum_pace.specs.declared.pace.Pace.{Pace}
-use Rattle.mum_pace.specs.declared.pace.Pace.TheVariants.{Limited}
-use Rattle.mum_pace.specs.declared.pace.Rate.{Rate}
-use Rattle.mum_pace.specs.Laws.{AreUses, AreWithin, KeepsPace, asked_and_read, bytes_that_come}
-use Rattle.mum_pace.specs.Meters.{MeterState, given_back}
-use Rattle.mum_pace.specs.Places.{Place, cost_in}
-use Rattle.mum_pace.proofs.Counting.{state}
-use Rattle.mum_pace.proofs.Kept.{IsGivenBack, kept_limited, messages_fit, one_more, times, voice_fits}
-use Rattle.mum_pace.proofs.Runs.{cost_in-append}
+use Rattle.mum_pace.proofs.Common.{◌≡◌, ℕ, ◌+◌, ◌-◌, ◌*◌, ◌^◌, ◌<◌, ◌≤◌, List, [], ◌∷◌, Option, Some, None, max, sym, ap, subst, arith, Cost, Pace, Limited, Rate, AreUses, AreWithin, KeepsPace, asked_and_read, bytes_that_come, MeterState, given_back, Place, cost_in}
+use Rattle.mum_pace.proofs.{Counting.state, Kept.IsGivenBack, Kept.kept_limited, Kept.messages_fit, Kept.one_more, Kept.times, Kept.voice_fits, Runs.cost_in-append}
 
 -- where nothing comes
 only_time : (used each at_once start here last frames : ℕ) → max start here ≤ last

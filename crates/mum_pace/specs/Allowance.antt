@@ -8,7 +8,8 @@ use Rattle.mum_pace.specs.declared.long.TheConstants.{LONG_FRAMES_LIMIT}
 -- allowance.
 abbrev pub IsHeldTogether : {S : Type 0} → State S ℕ → Type 0
 IsHeldTogether state =
-    (length state.words ≡ 1) × (slice_index state.words 0 ≡ sum state.views) × (slice_index state.words 0 ≤ LONG_FRAMES_LIMIT)
+    (length state.words ≡ 1) × (slice_index state.words 0 ≡ sum state.views)
+    × (slice_index state.words 0 ≤ LONG_FRAMES_LIMIT)
 
 -- A link that comes holds nothing.
 abbrev pub Comes : {S : Type 0} → Step S → Me S ℕ → ℕ → Me S ℕ → Type 0
@@ -18,8 +19,9 @@ Comes step old found new = new ≡ (0, [])
 -- Else nothing changes.
 abbrev pub Exchanges : {S : Type 0} → Step S → Me S ℕ → ℕ → Me S ℕ → Type 0
 Exchanges step old found new =
-    (new.1 ≡ old.1) × (found ≡ step.first → new.0 + step.first ≡ old.0 + step.second) × (found ≢ step.first → new.0 ≡ old.0)
+    (new.1 ≡ old.1) × (found ≡ step.first → new.0 + step.first ≡ old.0 + step.second)
+    × (found ≢ step.first → new.0 ≡ old.0)
 
--- A link gives back so many bytes, which it then holds no more.
+-- A link gives back n bytes, which it then holds no more.
 abbrev pub GivesBack : {S : Type 0} → Step S → Me S ℕ → ℕ → Me S ℕ → Type 0
 GivesBack step old found new = (new.1 ≡ old.1) × (new.0 + step.first ≡ old.0)

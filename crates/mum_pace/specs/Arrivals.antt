@@ -1,8 +1,7 @@
 -- How fast connections come in.
 use Rattle.std.specs.Prelude.{ℕ, ◌-◌, ◌<◌, ◌≤◌, max, List, [], ◌∷◌}
 use Rattle.mum_pace.specs.Meters.{given_back, room, used_with}
-use Rattle.mum_pace.specs.declared.arrivals.Arrivals.{Arrivals}
-use Rattle.mum_pace.specs.declared.pace.Rate.{Rate}
+use Rattle.mum_pace.specs.declared.{arrivals.Arrivals.Arrivals, pace.Rate.Rate}
 
 -- what those that came have used up of a rate, in thousandths, and since when time gives back
 pub record ArrivalsState : Type 0 where

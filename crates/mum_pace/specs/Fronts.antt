@@ -3,7 +3,7 @@ use Rattle.std.specs.Prelude.{◌≡◌, ℕ, ◌<◌, ◌≤◌, ◌&&◌, List
 use Rattle.mum_pace.specs.declared.frames.Front.{Front}
 use Rattle.mum_pace.specs.Places.{Place, after_bytes, are_of_pings, cost_in, is_in_a_ping, plus}
 
--- the place behind the front of what was read, and what that counts for: as each of its bytes in turn
+-- the place after the front of what was read, and what that counts for: as each of its bytes in turn
 pub record IsFront (old : Place) (read : List ℕ) (front : Front) (new : Place) : Type 0 where
   pub within : front.length ≤ length read
   pub some : 0 < length read → 0 < front.length

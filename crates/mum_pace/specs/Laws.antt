@@ -1,10 +1,8 @@
 -- What the contracts of a meter come to.
 use Rattle.std.specs.Prelude.{◌≡◌, ℕ, ◌+◌, ◌*◌, ◌<◌, ◌≤◌, List, [], ◌∷◌, length, Option, Some, None, unwrap_or}
 use Rattle.std.specs.List.{flat_map}
-use Rattle.mum_pace.specs.declared.frames.TheConstants.{HEADER_LENGTH}
-use Rattle.mum_pace.specs.declared.pace.Pace.{Pace}
-use Rattle.mum_pace.specs.declared.pace.Pace.TheVariants.{Limited, Unlimited}
-use Rattle.mum_pace.specs.declared.pace.Rate.{Rate}
+use Rattle.mum_pace.specs.declared.{frames.TheConstants.HEADER_LENGTH, pace.Pace.Pace}
+use Rattle.mum_pace.specs.declared.pace.{Pace.TheVariants.Limited, Pace.TheVariants.Unlimited, Rate.Rate}
 use Rattle.mum_pace.specs.declared.used.TheConstants.{FRAME}
 use Rattle.mum_pace.specs.Places.{Place}
 use Rattle.mum_pace.specs.Meters.{MeterState, after_read, allowance_of, at_time}
@@ -54,7 +52,7 @@ abbrev pub last_time : ℕ → List Read → ℕ
 last_time time [] = time
 last_time time (read ∷ reads) = last_time read.time reads
 
--- so many frames are no more than a rate allows at once and in this time
+-- n frames are no more than a rate allows at once and in this time
 abbrev pub AreWithin : Rate → ℕ → ℕ → Type 0
 AreWithin rate milliseconds frames = frames * FRAME ≤ rate.at_once * FRAME + milliseconds * rate.each_second
 
@@ -66,7 +64,8 @@ IsAsked old new = (time : ℕ) × (new ≡ at_time old time)
 
 -- At some time the meter is asked, and bytes come: no more than it allows, and they are counted.
 abbrev pub IsReadInPace : List ℕ → MeterState → MeterState → Type 0
-IsReadInPace bytes old new = (time : ℕ) × (length bytes ≤ allowance_of (at_time old time)) × (new ≡ asked_and_read old time bytes)
+IsReadInPace bytes old new =
+    (time : ℕ) × (length bytes ≤ allowance_of (at_time old time)) × (new ≡ asked_and_read old time bytes)
 
 -- nothing comes, or these bytes do
 abbrev pub IsUse : Option (List ℕ) → MeterState → MeterState → Type 0

@@ -1,10 +1,7 @@
 -- What a meter keeps, and what its calls make of it.
 use Rattle.std.specs.Prelude.{ℕ, ◌+◌, ◌-◌, ◌*◌, ◌/◌, ◌^◌, min, max, List}
-use Rattle.mum_pace.specs.declared.meter.Meter.{Meter}
-use Rattle.mum_pace.specs.declared.meter.Counted.{Counted}
-use Rattle.mum_pace.specs.declared.pace.Pace.{Pace}
-use Rattle.mum_pace.specs.declared.pace.Pace.TheVariants.{Limited, Unlimited}
-use Rattle.mum_pace.specs.declared.pace.Rate.{Rate}
+use Rattle.mum_pace.specs.declared.{meter.Meter.Meter, meter.Counted.Counted, pace.Pace.Pace}
+use Rattle.mum_pace.specs.declared.pace.{Pace.TheVariants.Limited, Pace.TheVariants.Unlimited, Rate.Rate}
 use Rattle.mum_pace.specs.declared.used.TheConstants.{FRAME}
 use Rattle.mum_pace.specs.Places.{Place, start, place_of, after_bytes, cost_in, are_of_pings, length_within}
 
@@ -28,11 +25,12 @@ state_of meter =
 
 -- of a client that has sent nothing
 abbrev pub new_meter : Pace → ℕ → MeterState
-new_meter pace milliseconds = record { pace = pace; place = start; messages = 0; voice = 0; milliseconds = milliseconds }
+new_meter pace milliseconds =
+    record { pace = pace; place = start; messages = 0; voice = 0; milliseconds = milliseconds }
 
 -- ---- what has come is counted
 
--- what is used up with so many frames more, as far as 64 bits count
+-- what is used up with n frames more, as far as 64 bits count
 abbrev pub used_with : ℕ → ℕ → ℕ
 used_with used frames = min (used + frames * FRAME) (2 ^ 64 - 1)
 
@@ -76,7 +74,8 @@ room rate used = (rate.at_once * FRAME - used) / FRAME
 -- how many bytes may be read, by the pace
 abbrev pub allowance_by : Pace → MeterState → ℕ
 allowance_by Unlimited meter = 2 ^ 64 - 1
-allowance_by (Limited messages voice) meter = length_within meter.place (room messages meter.messages) (room voice meter.voice)
+allowance_by (Limited messages voice) meter =
+    length_within meter.place (room messages meter.messages) (room voice meter.voice)
 
 abbrev pub allowance_of : MeterState → ℕ
 allowance_of meter = allowance_by meter.pace meter

@@ -8,7 +8,7 @@ use Rattle.mum_pace.specs.declared.pieces.TheConstants.{PIECE, LONG_PIECE}
 unfoldable pub begins_piece : ℕ → Bool
 begins_piece index = if nat_lt index SHORT_LIMIT then index % PIECE == 0 else (index - SHORT_LIMIT) % LONG_PIECE == 0
 
--- how many pieces begin in so many bytes at the front of a message
+-- how many pieces begin in n bytes at the front of a message
 unfoldable pub pieces_in : ℕ → ℕ
 pieces_in bytes = div_ceil (min bytes SHORT_LIMIT) PIECE + div_ceil (bytes - SHORT_LIMIT) LONG_PIECE
 

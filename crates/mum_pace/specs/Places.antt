@@ -1,8 +1,7 @@
 -- Where a client is in its stream of frames, and what each byte counts for.
 use Rattle.std.specs.Prelude.{ℕ, zero, suc, ◌+◌, ◌-◌, ◌*◌, ◌==◌, ◌&&◌, ◌||◌, min, nat_le, nat_lt, not, Bool, true, List, [], ◌∷◌, ◌++◌, length, take, drop, if◌then◌else◌}
 use Rattle.std.specs.Int.{w16, w32, from_be_bytes}
-use Rattle.mum_pace.specs.declared.frames.Cost.{Cost}
-use Rattle.mum_pace.specs.declared.frames.Frames.{Frames}
+use Rattle.mum_pace.specs.declared.frames.{Cost.Cost, Frames.Frames}
 use Rattle.mum_pace.specs.declared.frames.TheConstants.{HEADER_LENGTH, PING, VOICE}
 use Rattle.mum_pace.specs.declared.long.TheConstants.{SHORT_LIMIT}
 use Rattle.mum_pace.specs.Pieces.{begins_piece, bytes_within, pieces_in}
@@ -15,7 +14,7 @@ pub record Place : Type 0 where
   pub payload : ℕ
   pub left : ℕ
 
--- before the first byte, as if behind an empty Ping
+-- before the first byte, as if after an empty Ping
 abbrev pub start : Place
 start = record { header = []; kind = PING; payload = 0; left = 0 }
 
@@ -27,7 +26,13 @@ place_of frames = record { header = take frames.gathered frames.header; kind = f
 -- at the first byte of the payload of the frame that this header begins: its type in two bytes, its length in four
 unfoldable pub begun : List ℕ → Place
 begun header =
-    record { header = []; kind = from_be_bytes w16 (take 2 header); payload = from_be_bytes w32 (drop 2 header); left = from_be_bytes w32 (drop 2 header) }
+    record {
+      header = [];
+      kind = from_be_bytes w16 (take 2 header);
+      payload = from_be_bytes w32
+          (drop 2 header);
+      left = from_be_bytes w32 (drop 2 header);
+    }
 
 -- where so much of the next header has come
 unfoldable pub after_header : Place → List ℕ → Place
@@ -67,7 +72,8 @@ cost_of_header kind = record { frames = 1; messages = one_if (is_message kind); 
 
 -- a byte of a payload counts for a piece of a message that begins with it
 abbrev pub cost_of_payload : Place → Cost
-cost_of_payload place = record { frames = 0; messages = one_if (is_message place.kind && begins_piece (passed place)); voice = 0 }
+cost_of_payload place =
+    record { frames = 0; messages = one_if (is_message place.kind && begins_piece (passed place)); voice = 0 }
 
 -- the cost of a byte with which so much of the next header has come
 unfoldable pub cost_at_header : List ℕ → Cost
@@ -83,7 +89,12 @@ cost_of place byte = cost_by place.left place byte
 
 abbrev pub plus : Cost → Cost → Cost
 plus one other =
-    record { frames = one.frames + other.frames; messages = one.messages + other.messages; voice = one.voice + other.voice }
+    record {
+      frames = one.frames + other.frames;
+      messages = one.messages + other.messages;
+      voice = one.voice
+          + other.voice;
+    }
 
 -- what bytes count for, each at the place where those before it lead
 unfoldable pub cost_in : Place → List ℕ → Cost
@@ -109,13 +120,15 @@ goes_on place bytes = nat_lt 0 (length place.header) && nat_lt 0 (length bytes)
 unfoldable pub are_of_pings : Place → List ℕ → Bool
 are_of_pings place [] = true
 are_of_pings place (byte ∷ bytes) =
-    (goes_on (after_byte place byte) bytes || is_in_a_ping (after_byte place byte)) && are_of_pings (after_byte place byte) bytes
+    (goes_on (after_byte place byte) bytes || is_in_a_ping (after_byte place byte))
+    && are_of_pings (after_byte place byte) bytes
 
 -- ---- how much may be read
 
 -- how many pieces begin in the next bytes of the payload under way
 abbrev pub pieces_to_come : Place → ℕ → ℕ
-pieces_to_come place bytes = if is_message place.kind then pieces_in (passed place + bytes) - pieces_in (passed place) else 0
+pieces_to_come place bytes =
+    if is_message place.kind then pieces_in (passed place + bytes) - pieces_in (passed place) else 0
 
 -- how many are yet to begin in all that is left of it
 abbrev pub pieces_left : Place → ℕ

@@ -1,14 +1,11 @@
 -- The texts that say a pace.
 use Rattle.std.specs.Prelude.{ℕ, ◌^◌, ◌==◌, ◌&&◌, nat_lt, Bool, List, length, Option, Some, None, codes, if◌then◌else◌}
 use Rattle.std.specs.Option.{option_and_then, option_map}
-use Rattle.std.specs.List.{before_first, after_first, position_or_len}
-use Rattle.std.specs.Str.{all_ascii_digits, bytes_eq}
+use Rattle.std.specs.{List.before_first, List.after_first, List.position_or_len, Str.all_ascii_digits, Str.bytes_eq}
 use Rattle.std.specs.Str.Parse.{digits_value, without_leading_plus}
-use Rattle.mum_pace.specs.declared.pace.Pace.{Pace}
-use Rattle.mum_pace.specs.declared.pace.Pace.TheVariants.{Limited, Unlimited}
-use Rattle.mum_pace.specs.declared.pace.Rate.{Rate}
+use Rattle.mum_pace.specs.declared.pace.{Pace.Pace, Pace.TheVariants.Limited, Pace.TheVariants.Unlimited, Rate.Rate}
 
--- what stands before the first such byte, and what behind it
+-- what comes before the first such byte, and what after it
 unfoldable pub halves : ℕ → List ℕ → Option (List ℕ × List ℕ)
 halves mark text =
     if nat_lt (position_or_len (λ byte. byte == mark) text) (length text)
@@ -34,12 +31,13 @@ abbrev pub rate_with : Option ℕ → Option ℕ → Option Rate
 rate_with each_second at_once =
     option_and_then (λ each. option_map (λ once. record { each_second = each; at_once = once }) at_once) each_second
 
--- the rate that `20/200` says: so many frames each second, and so many at once
+-- the rate that `20/200` says: m frames each second, and n at once
 unfoldable pub rate_of : List ℕ → Option Rate
 rate_of text = option_and_then (λ parts. rate_with (number_of parts.0) (number_of parts.1)) (halves 47 text)
 
 abbrev pub pace_with : Option Rate → Option Rate → Option Pace
-pace_with messages voice = option_and_then (λ of_messages. option_map (λ of_voice. Limited of_messages of_voice) voice) messages
+pace_with messages voice =
+    option_and_then (λ of_messages. option_map (λ of_voice. Limited of_messages of_voice) voice) messages
 
 -- the pace that `none` says, or `20/200,200/400`: of messages, and of voice
 unfoldable pub pace_of : List ℕ → Option Pace

@@ -6,14 +6,14 @@ ghost use Rattle.mum_pace.specs.declared.frames.TheConstants.{HEADER_LENGTH};
 use crate::long::SHORT_LIMIT;
 use crate::pieces::{bytes_within, pieces_in};
 
-/// The types of frames that do not count as messages.
+// The types of frames that do not count as messages.
 pub(crate) const VOICE: u16 = 1;
 
 pub(crate) const PING: u16 = 3;
 
 pub(crate) const HEADER_LENGTH: usize = 6;
 
-/// What bytes count for: how many frames begin in them, and for how many messages and frames of voice they count.
+// What bytes count for: how many frames begin in them, and for how many messages and frames of voice they count.
 #[derive(Clone, Copy)]
 pub(crate) struct Cost {
     pub(crate) frames: usize,
@@ -55,16 +55,16 @@ impl Cost {
     }
 }
 
-/// The bytes at the front of what was read that are of one payload or of one header: how many they are, and what they
-/// count for.
+// The bytes at the front of what was read that are of one payload or of one header: how many they are, and what they
+// count for.
 #[derive(Clone, Copy)]
 pub(crate) struct Front {
     pub(crate) length: usize,
     pub(crate) cost: Cost,
 }
 
-/// Where a client is in the frames that it sends: how much of the next header has come; and of the frame that began
-/// last, its type, how long its payload is and how much of that is to come.
+// Where a client is in the frames that it sends: how much of the next header has come; and of the frame that began
+// last, its type, how long its payload is and how much of that is to come.
 #[derive(Clone, Copy)]
 pub(crate) struct Frames {
     header: [u8; HEADER_LENGTH],
@@ -83,7 +83,7 @@ impl Frames {
     ghost use Rattle.mum_pace.specs.Places.{begun, is_in_a_ping, passed, payload_under_way, place_of, start};
     ghost use Rattle.mum_pace.specs.Places as spec;
 
-    /// Before the first byte.
+    // Before the first byte.
     pub(crate) fn new() -> Frames
         ensures { place_of result ≡ start }
     {
@@ -96,7 +96,7 @@ impl Frames {
         }
     }
 
-    /// The length of the payload that is under way. 0: none is.
+    // The length of the payload that is under way. 0: none is.
     pub(crate) fn payload(&self) -> u64
         ensures { result ≡ payload_under_way (place_of self.now) }
     {
@@ -106,7 +106,7 @@ impl Frames {
         u64::from(self.payload)
     }
 
-    /// Goes past the front of what was read.
+    // Goes past the front of what was read.
     pub(crate) fn pass_front(&mut self, read: &[u8]) -> Front
         ensures { IsFront (place_of self.old) read.now result (place_of self.new) }
     {
@@ -166,7 +166,7 @@ impl Frames {
         }
     }
 
-    /// Whether the frame that began last is a Ping, and a short one: a frame that is too long ends its connection.
+    // Whether the frame that began last is a Ping, and a short one: a frame that is too long ends its connection.
     pub(crate) fn are_in_a_ping(&self) -> bool
         ensures { result ≡ is_in_a_ping (place_of self.now) }
     {
@@ -194,8 +194,8 @@ impl Frames {
         pieces_in(passed + u64::from(bytes)).saturating_sub(pieces_in(passed))
     }
 
-    /// The least length of what takes up this much room: of the payload under way, as far as its pieces find room, and of
-    /// frames behind it.
+    // The least length of what takes up this much room: of the payload under way, as far as its pieces find room, and of
+    // frames after it.
     #[tactic(auto, unfolding(crate::specs::Places::length_within))]
     pub(crate) fn length_within(&self, messages: u64, voice: u64) -> usize
         requires messages_fit { messages < 2 ^ 32 }

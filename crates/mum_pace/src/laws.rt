@@ -19,7 +19,7 @@ use crate::long::{LONG_FRAMES_LIMIT, SHORT_LIMIT};
 use crate::pieces::{LONG_PIECE, PIECE};
 use crate::used::FRAME;
 
-/// The numbers for which the names of types and limits stand.
+/// The numbers that the names of types and limits stand for.
 pub fn limits()
     ensures header { HEADER_LENGTH ≡ 6 }
     ensures voice { VOICE ≡ 1 }
@@ -32,7 +32,7 @@ pub fn limits()
     ensures left_behind { LEFT_BEHIND_LIMIT ≡ 10000 }
 {}
 
-/// The pieces of a message are those that begin with one of its bytes, and a length within so many pieces is the
+/// The pieces of a message are those that begin with one of its bytes, and a length within n pieces is the
 /// greatest.
 pub fn pieces_begin_one_by_one()
     ensures none { pieces_in 0 ≡ 0 }

@@ -78,7 +78,7 @@ impl LongFrames {
         seat
     }
 
-    // Reserves so many bytes for the link of this seat, if as many are left. Whether it did.
+    // Reserves n bytes for the link of this seat, if as many are left. Whether it did.
     fn reserve(&self, seat: &mut Seat<(), u64>, bytes: u64) -> bool
         requires { (seat.old.table_id ≡ self.now.table.shared.table_id) × (seat.old.me.1 ≡ []) }
         ensures table { seat.new.table_id ≡ seat.old.table_id }
@@ -100,7 +100,7 @@ impl LongFrames {
         false
     }
 
-    // The link of this seat gives back so many bytes of those that it holds.
+    // The link of this seat gives back n bytes of those that it holds.
     fn give_back(&self, seat: &mut Seat<(), u64>, bytes: u64)
         requires seat { (seat.old.table_id ≡ self.now.table.shared.table_id) × (seat.old.me.1 ≡ []) }
         requires held { bytes ≤ seat.old.me.0 }

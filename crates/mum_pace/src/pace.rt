@@ -11,7 +11,7 @@ pub struct Rate {
 }
 
 /// How fast the client of one connection may send. A Ping counts as nothing, a frame of voice as one, and a message as one
-/// for each thousand of its bytes that is begun, those of its header among them; behind the 128 KiB of a short frame, as
+/// for each thousand of its bytes that is begun, those of its header among them; after the 128 KiB of a short frame, as
 /// one for each 8 KiB.
 #[derive(Clone, Copy, Debug, PartialEq, Eq)]
 pub enum Pace {
@@ -54,7 +54,7 @@ impl Pace {
 }
 
 impl Rate {
-    // A rate as in `20/200`: so many frames each second, and so many at once. Neither is 0.
+    // A rate as in `20/200`: m frames each second, and n at once. Neither is 0.
     fn from_text(text: &str) -> Option<Rate>
         ensures { result ≡ rate_of text.now }
     {
@@ -66,7 +66,7 @@ impl Rate {
     }
 }
 
-// What stands before the first such mark, and what behind it.
+// What comes before the first such mark, and what after it.
 fn split(text: &str, mark: char) -> Option<(&str, &str)>
     requires { mark < 128 }
     ensures { MatchOption result (halves mark text.now ≡ None)

@@ -5,13 +5,13 @@ ghost use Rattle.mum_pace.specs.Pieces as spec;
 
 use crate::long::SHORT_LIMIT;
 
-/// So many bytes at the front of a message count as one frame.
+// This many bytes at the front of a message count as one frame.
 pub(crate) const PIECE: u64 = 1000;
 
-/// So many bytes behind the length of a short frame do, as far as a long message costs less a byte to whoever handles it.
+// This many bytes after the length of a short frame do, as far as a long message costs less a byte to its handler.
 pub(crate) const LONG_PIECE: u64 = 0x2000;
 
-/// How many pieces begin in so many bytes at the front of a message.
+// How many pieces begin in n bytes at the front of a message.
 #[tactic(auto, unfolding(crate::specs::Pieces::pieces_in))]
 pub(crate) fn pieces_in(bytes: u64) -> u64
     ensures { result ≡ spec.pieces_in bytes }
@@ -21,7 +21,7 @@ pub(crate) fn pieces_in(bytes: u64) -> u64
     short + long
 }
 
-/// The most bytes at the front of a message in which no more pieces begin than these.
+// The most bytes at the front of a message in which no more pieces begin than these.
 #[tactic(auto, unfolding(crate::specs::Pieces::bytes_within))]
 pub(crate) fn bytes_within(pieces: u64) -> u64
     requires { pieces < 2 ^ 40 }

@@ -4,10 +4,10 @@ ghost use Rattle.std.specs.Prelude.{◌<◌, ◌^◌};
 
 use crate::pace::Rate;
 
-/// What one frame takes of a rate, which is counted in thousandths.
+// What one frame takes of a rate, which is counted in thousandths.
 pub(crate) const FRAME: u64 = 1000;
 
-/// What a client has used up of a rate, in thousandths of a frame. Time gives it back.
+// What a client has used up of a rate, in thousandths of a frame. Time gives it back.
 #[derive(Clone, Copy)]
 pub(crate) struct Used {
     thousandths: u64,
@@ -39,7 +39,7 @@ impl Used {
         self.thousandths = self.thousandths.saturating_sub(returned);
     }
 
-    /// How many frames a rate has room for.
+    // How many frames a rate has room for.
     pub(crate) fn room(&self, rate: Rate) -> u64
         ensures room { result ≡ spec.room rate self.now.thousandths }
         ensures small { result < 2 ^ 32 }

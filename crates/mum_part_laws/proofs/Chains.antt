@@ -1,11 +1,5 @@
 -- A chain of tests names the first cause that applies.
-use Rattle.std.proofs.Common.{◌≡◌, ◌⊎◌, ℕ, ◌==◌, ◌&&◌, ◌||◌, not, Bool, true, false, cond, List, [], ◌∷◌, map, Option, Some, None, inl, inr, refl, sym, ap, ◌∙◌, arith}
-use Rattle.std.specs.Prelude.{length, nat_le, nat_lt, slice_index_or, ⊤, ◌≤◌, ◌<◌}
-use Rattle.std.specs.List.{Contains, list_any}
-use Rattle.std.proofs.lemmas.Bool.{false≢true}
-use Rattle.std.proofs.lemmas.Bool.Decides.{nat_tests}
-use Rattle.std.proofs.lemmas.List.Elements.{All-cons, All-contains, All-nil, Contains-append_right, Contains-get_or}
-use Rattle.mum_part_laws.specs.Firsts.{NamesFirst}
+use Rattle.mum_part_laws.proofs.Common.{◌≡◌, ◌⊎◌, ℕ, ◌==◌, ◌&&◌, ◌||◌, not, Bool, true, false, cond, List, [], ◌∷◌, map, Option, Some, None, inl, inr, refl, sym, ap, ◌∙◌, arith, length, nat_le, nat_lt, slice_index_or, ⊤, ◌≤◌, ◌<◌, Contains, list_any, false≢true, nat_tests, All-cons, All-contains, All-nil, Contains-append_right, Contains-get_or, NamesFirst}
 
 -- a cause, and the test whether it applies
 abbrev pub Case : Type 0 → Type 0

@@ -1,28 +1,6 @@
 -- A change of several parts of a channel is refused for the first cause that applies.
-use Rattle.std.proofs.Common.{◌≡◌, ◌⊎◌, ℕ, ◌≤◌, ◌<◌, ◌==◌, ◌&&◌, ◌||◌, not, Bool, true, false, cond, List, [], ◌∷◌, Option, Some, None, inl, inr, refl, sym, ap, subst, ◌∙◌, arith}
-use Rattle.std.specs.Prelude.{is_some, nat_lt, unwrap_or}
-use Rattle.std.specs.List.{Contains, count_by, list_all, list_any}
-use Rattle.std.specs.Option.{option_map_or}
-use Rattle.std.specs.Str.{bytes_eq}
-use Rattle.std.proofs.lemmas.Bool.{and_parts, false≢true}
-use Rattle.std.proofs.lemmas.Bool.Decides.{nat_tests}
-use Rattle.std.proofs.lemmas.List.Elements.{Contains-append_right, Contains-get_or}
-use Rattle.std.proofs.lemmas.Option.{none-some}
-use Rattle.mum_base.specs.declared.number.ChannelId.{ChannelId}
-use Rattle.mum_tree.specs.declared.channel.Row.{Row}
-use Rattle.mum_tree.specs.declared.fault.TreeFault.{TreeFault}
-use Rattle.mum_tree.specs.declared.fault.TreeFault.TheVariants.{LinkCount, Nesting, NoChannel, RootFixed, SameName, TemporaryParent, UnderItself}
-use Rattle.mum_tree.specs.Change.{Change, fault_of_edit, given_or, name_after, names_there, overlinks, parent_after, renames_or_moves, with_change}
-use Rattle.mum_tree.specs.Proper.{AreLinks, IsProper}
-use Rattle.mum_tree.specs.Refusals.{name_of, parent_of}
-use Rattle.mum_tree.specs.Rows.{is_below, is_root, is_taken, is_temporary, is_there, nests, row_of}
-use Rattle.mum_tree.specs.State.{Pair, TreeState, starts_at}
-use Rattle.mum_tree.proofs.Partners.{fits_back, links_fit, pairs_after}
-use Rattle.mum_users.proofs.Counts.{count_by-cons}
-use Rattle.mum_part_laws.specs.Firsts.{NamesFirst}
-use Rattle.mum_part_laws.specs.Trees.{AgainstChange, ChangesNameTheFirst, HasName, IsAbsent, IsOnWay, IsPlaced, IsTemporary, NamesAbsent, NestsTooDeep, OfPlaced, Overlinks, name_then, parent_then}
-use Rattle.mum_part_laws.proofs.Chains.{Tells, TellsEach, chain, chain_names, tells_and, tells_any, tells_either, tells_eq, tells_lt, tells_not, tells_or}
-use Rattle.mum_part_laws.proofs.TreeLaws.{absent, named, nested, of_row, on_way, same_bytes, temporary, there}
+use Rattle.mum_part_laws.proofs.Common.{◌≡◌, ◌⊎◌, ℕ, ◌≤◌, ◌<◌, ◌==◌, ◌&&◌, ◌||◌, not, Bool, true, false, cond, List, [], ◌∷◌, Option, Some, None, inl, inr, refl, sym, ap, subst, ◌∙◌, arith, is_some, nat_lt, unwrap_or, Contains, count_by, list_all, list_any, option_map_or, bytes_eq, and_parts, false≢true, nat_tests, Contains-append_right, Contains-get_or, none-some, ChannelId, Row, TreeFault, LinkCount, Nesting, NoChannel, RootFixed, SameName, TemporaryParent, UnderItself, Change, fault_of_edit, given_or, name_after, names_there, overlinks, parent_after, renames_or_moves, with_change, AreLinks, IsProper, name_of, parent_of, is_below, is_root, is_taken, is_temporary, is_there, nests, row_of, Pair, TreeState, starts_at, fits_back, links_fit, pairs_after, count_by-cons, NamesFirst, AgainstChange, ChangesNameTheFirst, HasName, IsAbsent, IsOnWay, IsPlaced, IsTemporary, NamesAbsent, NestsTooDeep, OfPlaced, Overlinks, name_then, parent_then}
+use Rattle.mum_part_laws.proofs.{Chains.Tells, Chains.TellsEach, Chains.chain, Chains.chain_names, Chains.tells_and, Chains.tells_any, Chains.tells_either, Chains.tells_eq, Chains.tells_lt, Chains.tells_not, Chains.tells_or, TreeLaws.absent, TreeLaws.named, TreeLaws.nested, TreeLaws.of_row, TreeLaws.on_way, TreeLaws.same_bytes, TreeLaws.temporary, TreeLaws.there}
 
 -- ---- the values after a change
 

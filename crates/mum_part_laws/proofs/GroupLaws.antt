@@ -1,22 +1,5 @@
 -- An account is in a group by the nearest definition that names it.
-use Rattle.std.proofs.Common.{◌≡◌, ◌≢◌, ◌⊎◌, ℕ, suc, ◌+◌, ◌-◌, ◌==◌, ◌&&◌, ◌||◌, not, Bool, true, false, cond, List, [], ◌∷◌, ◌++◌, map, reverse, take, drop, Option, Some, None, inl, inr, refl, sym, ap, subst, ◌∙◌, arith}
-use Rattle.std.specs.Prelude.{codes, length, nat_eq}
-use Rattle.std.specs.List.{All, find, list_any, starts_with}
-use Rattle.std.specs.Str.{bytes_eq}
-use Rattle.std.proofs.lemmas.Bool.{and_parts, eqb-true, false≢true, ne_eqb}
-use Rattle.std.proofs.lemmas.List.{take-append-drop}
-use Rattle.std.proofs.lemmas.List.Elements.{All-cons, All-nil}
-use Rattle.std.proofs.lemmas.List.Folds.{list_any-append}
-use Rattle.std.proofs.lemmas.Option.{none-some, same_Some}
-use Rattle.std.proofs.lemmas.Slice.Eq.{bytes_eq-Decides}
-use Rattle.std.proofs.Math.Seq.{take-length}
-use Rattle.mum_base.specs.declared.number.AccountId.{AccountId}
-use Rattle.mum_base.specs.declared.number.ChannelId.{ChannelId}
-use Rattle.mum_policy.specs.declared.policy.ChannelPolicy.{ChannelPolicy}
-use Rattle.mum_policy.specs.declared.policy.Group.{Group}
-use Rattle.mum_policy.specs.Member.{Actor, PolicyMap, definition, definitions, definitions_from, is_listed, lists, meets, member, member_by, members, taken, upwards, without}
-use Rattle.mum_policy.specs.Name.{Asks, Understood, asked_by, is_built_in_without_members, meaning, understood, understood_after}
-use Rattle.mum_part_laws.specs.Groups.{Adds, Defines, GuestsAreInNone, IsAddedAbove, IsInGroup, IsInheritable, IsPlain, LeavesOpen, MembersAreByDefinitions, Names}
+use Rattle.mum_part_laws.proofs.Common.{◌≡◌, ◌≢◌, ◌⊎◌, ℕ, suc, ◌+◌, ◌-◌, ◌==◌, ◌&&◌, ◌||◌, not, Bool, true, false, cond, List, [], ◌∷◌, ◌++◌, map, reverse, take, drop, Option, Some, None, inl, inr, refl, sym, ap, subst, ◌∙◌, arith, codes, length, nat_eq, All, find, list_any, starts_with, bytes_eq, and_parts, eqb-true, false≢true, ne_eqb, take-append-drop, All-cons, All-nil, list_any-append, none-some, same_Some, bytes_eq-Decides, take-length, AccountId, ChannelId, ChannelPolicy, Group, Actor, PolicyMap, definition, definitions, definitions_from, is_listed, lists, meets, member, member_by, members, taken, upwards, without, Asks, Understood, asked_by, is_built_in_without_members, meaning, understood, understood_after, Adds, Defines, GuestsAreInNone, IsAddedAbove, IsInGroup, IsInheritable, IsPlain, LeavesOpen, MembersAreByDefinitions, Names}
 use Rattle.mum_part_laws.proofs.Chains.{Tells, tells_any, tells_eq}
 
 -- ---- accounts in lists

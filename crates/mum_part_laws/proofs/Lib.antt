@@ -1,3 +1,5 @@
+mod Common
+pub mod Public
 pub mod Chains
 pub mod TreeLaws
 mod RosterLaws

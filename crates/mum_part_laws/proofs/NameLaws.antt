@@ -1,15 +1,5 @@
 -- What the prefixes of a group name mean, and the names that the Murmur manual defines.
-use Rattle.std.proofs.Common.{◌≡◌, ℕ, suc, ◌+◌, ◌-◌, ◌<◌, ◌==◌, ◌||◌, not, Bool, true, false, cond, List, [], ◌∷◌, ◌++◌, reverse, take, inl, inr, refl, sym, ap, subst, ◌∙◌, arith}
-use Rattle.std.specs.Prelude.{length}
-use Rattle.std.specs.List.{All, list_any}
-use Rattle.std.specs.Str.{str_eq_ignore_ascii_case}
-use Rattle.std.proofs.lemmas.Bool.{ne_eqb}
-use Rattle.std.proofs.lemmas.List.{length-append, reverse-append}
-use Rattle.std.proofs.Math.Seq.{take-length}
-use Rattle.mum_base.specs.declared.number.ChannelId.{ChannelId}
-use Rattle.mum_policy.specs.Member.{Actor, PolicyMap, has_token, is_in, meets, member, member_by, upwards}
-use Rattle.mum_policy.specs.Name.{Understood, asked_by, is_built_in_without_members, meaning, understood, understood_after}
-use Rattle.mum_part_laws.specs.Names.{BeginsOtherwise, IsPrefix, NamesAreKnown, PrefixesAreRead, TokensAreWords, at_acl_if, negated_if}
+use Rattle.mum_part_laws.proofs.Common.{◌≡◌, ℕ, suc, ◌+◌, ◌-◌, ◌<◌, ◌==◌, ◌||◌, not, Bool, true, false, cond, List, [], ◌∷◌, ◌++◌, reverse, take, inl, inr, refl, sym, ap, subst, ◌∙◌, arith, length, All, list_any, str_eq_ignore_ascii_case, ne_eqb, length-append, reverse-append, take-length, ChannelId, Actor, PolicyMap, has_token, is_in, meets, member, member_by, upwards, Understood, asked_by, is_built_in_without_members, meaning, understood, understood_after, BeginsOtherwise, IsPrefix, NamesAreKnown, PrefixesAreRead, TokensAreWords, at_acl_if, negated_if}
 use Rattle.mum_part_laws.proofs.Chains.{Tells, tells_any, tells_same}
 
 skip : {X : Type 0} (b : Bool) (x y : X) → b ≡ false → cond b x y ≡ y

@@ -1,25 +1,6 @@
 -- A change of the sessions is refused for the first cause that applies.
-use Rattle.std.proofs.Common.{◌≡◌, ◌⊎◌, ℕ, ◌<◌, ◌==◌, ◌||◌, ◌&&◌, not, Bool, true, false, cond, List, [], ◌∷◌, Option, Some, None, inl, inr, refl, sym, ap, subst, ◌∙◌}
-use Rattle.std.specs.Prelude.{length, nat_le, nat_lt, sum_by, ◌^◌, ◌-◌}
-use Rattle.std.specs.List.{Contains, count_by, find, list_any}
-use Rattle.std.proofs.lemmas.Bool.{false≢true}
-use Rattle.std.proofs.lemmas.Option.{none-some}
-use Rattle.std.proofs.lemmas.Slice.Eq.{bytes_eq-Decides}
-use Rattle.mum_base.specs.declared.number.ChannelId.{ChannelId}
-use Rattle.mum_base.specs.declared.number.SessionId.{SessionId}
-use Rattle.mum_users.specs.declared.fault.UserFault.{UserFault}
-use Rattle.mum_users.specs.declared.fault.UserFault.TheVariants.{Full, ListenerLimit, NameInUse, NoSession, SessionsUsedUp, TargetId, TargetSize, UserListenerLimit}
-use Rattle.mum_users.specs.declared.listening.ListenerPair.{ListenerPair}
-use Rattle.mum_users.specs.declared.target.Target.{Target}
-use Rattle.mum_users.specs.declared.target.TargetItem.{TargetItem}
-use Rattle.mum_users.specs.declared.user.User.{User}
-use Rattle.mum_users.specs.Edit.{is_crowded, pairs_after}
-use Rattle.mum_users.specs.Listeners.{listens}
-use Rattle.mum_users.specs.Sessions.{is_full, is_used_up}
-use Rattle.mum_users.specs.State.{RosterState, has_name, has_number, is_of_channel, is_of_session}
-use Rattle.mum_users.specs.Targets.{is_oversize}
-use Rattle.mum_part_laws.specs.Firsts.{NamesFirst}
-use Rattle.mum_part_laws.specs.Rosters.{AgainstEdit, AgainstJoin, AgainstListening, AgainstTarget, EditsNameTheFirst, IsGone, IsTooLarge, JoinsNameTheFirst, ListeningNamesTheFirst, TargetsNameTheFirst, listened_count, listener_count}
+use Rattle.mum_part_laws.proofs.Common.{◌≡◌, ◌⊎◌, ℕ, ◌<◌, ◌==◌, ◌||◌, ◌&&◌, not, Bool, true, false, cond, List, [], ◌∷◌, Option, Some, None, inl, inr, refl, sym, ap, subst, ◌∙◌, length, nat_le, nat_lt, sum_by, ◌^◌, ◌-◌, Contains, count_by, find, list_any, false≢true, none-some, bytes_eq-Decides, ChannelId, SessionId, UserFault, Full, ListenerLimit, NameInUse, NoSession, SessionsUsedUp, TargetId, TargetSize, UserListenerLimit, ListenerPair, Target, TargetItem, User, is_crowded, listens, is_used_up, RosterState, has_name, has_number, is_of_channel, is_of_session, is_oversize, NamesFirst, AgainstEdit, AgainstJoin, AgainstListening, AgainstTarget, EditsNameTheFirst, IsGone, IsTooLarge, JoinsNameTheFirst, ListeningNamesTheFirst, TargetsNameTheFirst, listened_count, listener_count}
+use Rattle.mum_users.specs.{Edit.pairs_after, Sessions.is_full}
 use Rattle.mum_part_laws.proofs.Chains.{Tells, chain_names, tells_and, tells_any, tells_eq, tells_le, tells_lt, tells_off, tells_or, tells_so}
 
 -- ---- whether a session is here

@@ -1,17 +1,6 @@
 -- Who is below a channel by the arguments of `sub`.
-use Rattle.std.proofs.Common.{◌≡◌, ◌⊎◌, ℕ, ◌+◌, ◌-◌, ◌<◌, ◌≤◌, ◌==◌, ◌&&◌, Bool, true, false, cond, List, [], ◌∷◌, ◌++◌, Option, Some, None, inl, inr, refl, sym, ap, subst, ◌∙◌, arith}
-use Rattle.std.specs.Prelude.{codes, length, nat_le, nat_lt}
-use Rattle.std.specs.Char.{is_ascii_digit}
-use Rattle.std.specs.List.{Contains, list_all, slice_get}
-use Rattle.std.specs.Str.Parse.{digits_value}
-use Rattle.std.proofs.lemmas.Bool.{and_from, and_parts, eq-eqb, false≢true}
-use Rattle.std.proofs.lemmas.Bool.Decides.{nat_tests}
-use Rattle.std.proofs.lemmas.Option.{none-some, same_Some}
-use Rattle.mum_base.specs.declared.number.ChannelId.{ChannelId}
-use Rattle.mum_policy.specs.Member.{Actor, PolicyMap, meets, member}
-use Rattle.mum_policy.specs.Name.{asked_by, is_built_in_without_members, meaning, subtree_or_nobody, understood_after}
-use Rattle.mum_policy.specs.Subtree.{is_at_least, is_at_most, is_below, is_in_span, is_number, is_on, offset_of, separated, signed, span_by, span_of}
-use Rattle.mum_part_laws.specs.Names.{AreDigits, IsArgument, IsAtLeast, IsAtMost, IsBelow, IsNoArgument, Steps, SubIsElseOfNobody, SubIsOfWays, argument, arguments_in, place_from}
+use Rattle.mum_part_laws.proofs.Common.{◌≡◌, ◌⊎◌, ℕ, ◌+◌, ◌-◌, ◌<◌, ◌≤◌, ◌==◌, ◌&&◌, Bool, true, false, cond, List, [], ◌∷◌, ◌++◌, Option, Some, None, inl, inr, refl, sym, ap, subst, ◌∙◌, arith, codes, length, nat_le, nat_lt, is_ascii_digit, Contains, list_all, slice_get, digits_value, and_from, and_parts, eq-eqb, false≢true, nat_tests, none-some, same_Some, ChannelId, Actor, PolicyMap, meets, member, asked_by, is_built_in_without_members, meaning, subtree_or_nobody, understood_after, is_at_least, is_at_most, is_in_span, is_number, is_on, offset_of, separated, signed, span_by, span_of, AreDigits, IsArgument, IsAtLeast, IsAtMost, IsBelow, IsNoArgument, Steps, SubIsElseOfNobody, SubIsOfWays, argument, arguments_in, place_from}
+use Rattle.mum_policy.specs.Subtree.{is_below}
 use Rattle.mum_part_laws.proofs.Chains.{Tells, tells_and, tells_any, tells_eq, tells_le, tells_so}
 
 skip : {X : Type 0} (b : Bool) (x y : X) → b ≡ false → cond b x y ≡ y

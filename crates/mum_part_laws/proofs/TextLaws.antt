@@ -1,13 +1,5 @@
 -- A name or a text is refused for the first cause that applies.
-use Rattle.std.proofs.Common.{◌≡◌, ◌⊎◌, ℕ, ◌+◌, ◌-◌, ◌<◌, ◌==◌, Bool, false, List, [], ◌∷◌, ◌++◌, refl, sym, ap, ◌∙◌, arith}
-use Rattle.std.specs.Prelude.{length, nat_lt, slice_index}
-use Rattle.std.specs.List.{list_any}
-use Rattle.std.proofs.lemmas.Bool.{false≢true, ne_eqb}
-use Rattle.std.proofs.lemmas.List.{length-append}
-use Rattle.std.proofs.Math.Seq.{get_or-append_seam}
-use Rattle.mum_base.specs.Name.{has_space_at_edge, is_control_byte}
-use Rattle.mum_base.specs.declared.name.NameFault.TheVariants.{ControlCharacter, EdgeSpace, Empty, TooLong}
-use Rattle.mum_part_laws.specs.Texts.{AgainstName, AgainstText, NamesAreRefusedForTheFirst, TextsAreRefusedForLength}
+use Rattle.mum_part_laws.proofs.Common.{◌≡◌, ◌⊎◌, ℕ, ◌+◌, ◌-◌, ◌<◌, ◌==◌, Bool, false, List, [], ◌∷◌, ◌++◌, refl, sym, ap, ◌∙◌, arith, length, nat_lt, slice_index, list_any, false≢true, ne_eqb, length-append, get_or-append_seam, has_space_at_edge, is_control_byte, ControlCharacter, EdgeSpace, Empty, TooLong, AgainstName, AgainstText, NamesAreRefusedForTheFirst, TextsAreRefusedForLength}
 use Rattle.mum_part_laws.proofs.Chains.{Tells, chain_names, tells_any, tells_eq, tells_lt, tells_or}
 
 empty : (name : List ℕ) → Tells (length name == 0) (name ≡ [])

@@ -1,23 +1,6 @@
 -- A change of the channels is refused for the first cause that applies.
-use Rattle.std.proofs.Common.{◌≡◌, ◌⊎◌, ℕ, ◌+◌, ◌≤◌, ◌<◌, ◌==◌, ◌&&◌, ◌||◌, not, Bool, true, false, cond, List, [], ◌∷◌, Option, Some, None, refl, sym, ap, subst, ◌∙◌}
-use Rattle.std.specs.Prelude.{is_some, length, nat_le, nat_lt}
-use Rattle.std.specs.List.{Contains, count_by, filter, list_any}
-use Rattle.std.specs.Option.{option_map_or}
-use Rattle.std.specs.Str.{bytes_eq}
-use Rattle.std.proofs.lemmas.Bool.{false≢true}
-use Rattle.std.proofs.lemmas.List.{length-map}
-use Rattle.std.proofs.lemmas.List.Sums.{length-filter}
-use Rattle.std.proofs.lemmas.Option.{none-some, same_Some}
-use Rattle.std.proofs.lemmas.Slice.Eq.{bytes_eq-Decides}
-use Rattle.mum_base.specs.declared.number.ChannelId.{ChannelId}
-use Rattle.mum_tree.specs.declared.channel.Row.{Row}
-use Rattle.mum_tree.specs.declared.fault.TreeFault.{TreeFault}
-use Rattle.mum_tree.specs.declared.fault.TreeFault.TheVariants.{Count, LinkCount, Nesting, NoChannel, RootFixed, SameName, TemporaryParent, UnderItself}
-use Rattle.mum_tree.specs.Refusals.{is_full, name_of, parent_of}
-use Rattle.mum_tree.specs.Rows.{has_name_beside, is_below, is_root, is_taken, is_temporary, is_there, nests, path, row_of}
-use Rattle.mum_tree.specs.State.{Pair, TreeState, are_linked, partners, starts_at}
-use Rattle.mum_part_laws.specs.Firsts.{NamesFirst}
-use Rattle.mum_part_laws.specs.Trees.{AgainstLink, AgainstName, AgainstNew, AgainstParent, AgainstRemoval, HasAllLinks, HasName, IsAbsent, IsOnWay, IsTemporary, LinksNameTheFirst, MovesNameTheFirst, NamesNameTheFirst, NestsTooDeep, NewChannelsNameTheFirst, RemovalsNameTheFirst}
+use Rattle.mum_part_laws.proofs.Common.{◌≡◌, ◌⊎◌, ℕ, ◌+◌, ◌≤◌, ◌<◌, ◌==◌, ◌&&◌, ◌||◌, not, Bool, true, false, cond, List, [], ◌∷◌, Option, Some, None, refl, sym, ap, subst, ◌∙◌, is_some, length, nat_le, nat_lt, Contains, count_by, filter, list_any, option_map_or, bytes_eq, false≢true, length-map, length-filter, none-some, same_Some, bytes_eq-Decides, ChannelId, Row, TreeFault, Count, LinkCount, Nesting, NoChannel, RootFixed, SameName, TemporaryParent, UnderItself, is_full, name_of, parent_of, has_name_beside, is_below, is_root, is_taken, is_temporary, is_there, nests, path, row_of, Pair, TreeState, are_linked, partners, starts_at, NamesFirst, AgainstLink, AgainstNew, AgainstParent, AgainstRemoval, HasAllLinks, HasName, IsAbsent, IsOnWay, IsTemporary, LinksNameTheFirst, MovesNameTheFirst, NamesNameTheFirst, NestsTooDeep, NewChannelsNameTheFirst, RemovalsNameTheFirst}
+use Rattle.mum_part_laws.specs.Trees.{AgainstName}
 use Rattle.mum_part_laws.proofs.Chains.{Tells, chain_names, tells_and, tells_any, tells_either, tells_eq, tells_le, tells_lt, tells_not, tells_or, tells_so}
 
 -- ---- what tests of the tree say

@@ -14,7 +14,9 @@ AgainstName name ControlCharacter = (byte : ℕ) × Contains name byte × ((byte
 AgainstName name EdgeSpace = ((rest : List ℕ) × (name ≡ 32 ∷ rest)) ⊎ ((rest : List ℕ) × (name ≡ rest ++ 32 ∷ []))
 
 abbrev pub NamesAreRefusedForTheFirst : Type 0
-NamesAreRefusedForTheFirst = (name : List ℕ) → NamesFirst (AgainstName name) (Empty ∷ TooLong ∷ ControlCharacter ∷ EdgeSpace ∷ []) (name_fault name)
+NamesAreRefusedForTheFirst =
+    (name : List ℕ)
+    → NamesFirst (AgainstName name) (Empty ∷ TooLong ∷ ControlCharacter ∷ EdgeSpace ∷ []) (name_fault name)
 
 abbrev pub AgainstText : List ℕ → NameFault → Type 0
 AgainstText text TooLong = 20000 < length text

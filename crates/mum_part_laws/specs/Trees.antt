@@ -2,14 +2,11 @@
 use Rattle.std.specs.Prelude.{◌≡◌, ◌≢◌, ◌⊎◌, ◌≤◌, ◌<◌, ℕ, ◌+◌, true, false, List, [], ◌∷◌, length, Some, None, unwrap_or}
 use Rattle.std.specs.List.{Contains, count_by}
 use Rattle.mum_base.specs.declared.number.ChannelId.{ChannelId}
-use Rattle.mum_tree.specs.Change.{Change, fault_of_edit, with_change}
-use Rattle.mum_tree.specs.Proper.{IsProper}
-use Rattle.mum_tree.specs.declared.channel.Row.{Row}
-use Rattle.mum_tree.specs.declared.fault.TreeFault.{TreeFault}
+use Rattle.mum_tree.specs.{Change.Change, Change.fault_of_edit, Change.with_change, Proper.IsProper}
+use Rattle.mum_tree.specs.{Rows.path, Rows.row_of, State.TreeState, State.are_linked, State.starts_at}
+use Rattle.mum_tree.specs.declared.{channel.Row.Row, fault.TreeFault.TreeFault}
 use Rattle.mum_tree.specs.declared.fault.TreeFault.TheVariants.{Count, LinkCount, Nesting, NoChannel, RootFixed, SameName, TemporaryParent, UnderItself}
 use Rattle.mum_tree.specs.Refusals.{fault_of_add, fault_of_link, fault_of_move, fault_of_remove, fault_of_rename}
-use Rattle.mum_tree.specs.Rows.{path, row_of}
-use Rattle.mum_tree.specs.State.{TreeState, are_linked, starts_at}
 use Rattle.mum_part_laws.specs.Firsts.{NamesFirst}
 
 -- ---- what may be against a change
@@ -35,7 +32,8 @@ IsOnWay tree id other = (one : ChannelId) × Contains (path tree.channels other)
 abbrev pub NestsTooDeep : TreeState → ChannelId → ChannelId → Type 0
 NestsTooDeep tree id parent =
     (row : Row) × Contains tree.channels row × IsOnWay tree id row.channel.id
-    × (33 + length (path tree.channels id) < length (path tree.channels parent) + 1 + length (path tree.channels row.channel.id))
+    × (33 + length (path tree.channels id)
+    < length (path tree.channels parent) + 1 + length (path tree.channels row.channel.id))
 
 -- the channel has as many links as it may have
 abbrev pub HasAllLinks : TreeState → ChannelId → Type 0
@@ -54,14 +52,16 @@ AgainstNew tree id parent name cause = ⊥
 abbrev pub NewChannelsNameTheFirst : Type 0
 NewChannelsNameTheFirst =
     (tree : TreeState) (id parent : ChannelId) (name : List ℕ)
-    → NamesFirst (AgainstNew tree id parent name) (NoChannel ∷ SameName ∷ TemporaryParent ∷ Nesting ∷ Count ∷ []) (fault_of_add tree id parent name)
+    → NamesFirst (AgainstNew tree id parent name) (NoChannel ∷ SameName ∷ TemporaryParent ∷ Nesting ∷ Count ∷ [])
+    (fault_of_add tree id parent name)
 
 -- ---- a new name
 
 abbrev pub AgainstName : TreeState → ChannelId → List ℕ → TreeFault → Type 0
 AgainstName tree id name NoChannel = IsAbsent tree id
 AgainstName tree id name RootFixed = id.0 ≡ 0
-AgainstName tree id name SameName = (row : Row) × (row_of tree.channels id ≡ Some row) × HasName tree row.channel.parent id name
+AgainstName tree id name SameName =
+    (row : Row) × (row_of tree.channels id ≡ Some row) × HasName tree row.channel.parent id name
 AgainstName tree id name cause = ⊥
 
 abbrev pub NamesNameTheFirst : Type 0
@@ -74,7 +74,8 @@ NamesNameTheFirst =
 abbrev pub AgainstParent : TreeState → ChannelId → ChannelId → TreeFault → Type 0
 AgainstParent tree id parent NoChannel = IsAbsent tree id ⊎ IsAbsent tree parent
 AgainstParent tree id parent RootFixed = id.0 ≡ 0
-AgainstParent tree id parent SameName = (row : Row) × (row_of tree.channels id ≡ Some row) × HasName tree parent id row.channel.name
+AgainstParent tree id parent SameName =
+    (row : Row) × (row_of tree.channels id ≡ Some row) × HasName tree parent id row.channel.name
 AgainstParent tree id parent UnderItself = IsOnWay tree id parent
 AgainstParent tree id parent TemporaryParent = IsTemporary tree parent
 AgainstParent tree id parent Nesting = NestsTooDeep tree id parent
@@ -83,7 +84,8 @@ AgainstParent tree id parent cause = ⊥
 abbrev pub MovesNameTheFirst : Type 0
 MovesNameTheFirst =
     (tree : TreeState) (id parent : ChannelId)
-    → NamesFirst (AgainstParent tree id parent) (NoChannel ∷ RootFixed ∷ SameName ∷ UnderItself ∷ TemporaryParent ∷ Nesting ∷ []) (fault_of_move tree id parent)
+    → NamesFirst (AgainstParent tree id parent)
+    (NoChannel ∷ RootFixed ∷ SameName ∷ UnderItself ∷ TemporaryParent ∷ Nesting ∷ []) (fault_of_move tree id parent)
 
 -- ---- a removal
 
@@ -94,18 +96,21 @@ AgainstRemoval tree id cause = ⊥
 
 abbrev pub RemovalsNameTheFirst : Type 0
 RemovalsNameTheFirst =
-    (tree : TreeState) (id : ChannelId) → NamesFirst (AgainstRemoval tree id) (NoChannel ∷ RootFixed ∷ []) (fault_of_remove tree id)
+    (tree : TreeState) (id : ChannelId)
+    → NamesFirst (AgainstRemoval tree id) (NoChannel ∷ RootFixed ∷ []) (fault_of_remove tree id)
 
 -- ---- a new link
 
 abbrev pub AgainstLink : TreeState → ChannelId → ChannelId → TreeFault → Type 0
 AgainstLink tree one other NoChannel = IsAbsent tree one ⊎ IsAbsent tree other
-AgainstLink tree one other LinkCount = (one.0 ≢ other.0) × (are_linked tree one other ≡ false) × (HasAllLinks tree one ⊎ HasAllLinks tree other)
+AgainstLink tree one other LinkCount =
+    (one.0 ≢ other.0) × (are_linked tree one other ≡ false) × (HasAllLinks tree one ⊎ HasAllLinks tree other)
 AgainstLink tree one other cause = ⊥
 
 abbrev pub LinksNameTheFirst : Type 0
 LinksNameTheFirst =
-    (tree : TreeState) (one other : ChannelId) → NamesFirst (AgainstLink tree one other) (NoChannel ∷ LinkCount ∷ []) (fault_of_link tree one other)
+    (tree : TreeState) (one other : ChannelId)
+    → NamesFirst (AgainstLink tree one other) (NoChannel ∷ LinkCount ∷ []) (fault_of_link tree one other)
 
 -- ---- several parts of a channel
 
@@ -138,9 +143,11 @@ Overlinks tree id change = (one : ChannelId) × (64 < count_by (starts_at one) (
 abbrev pub AgainstChange : TreeState → ChannelId → Change → TreeFault → Type 0
 AgainstChange tree id change NoChannel = NamesAbsent tree id change
 AgainstChange tree id change RootFixed = OfPlaced tree id change (λ row. id.0 ≡ 0)
-AgainstChange tree id change SameName = OfPlaced tree id change (λ row. HasName tree (parent_then change row) id (name_then change row))
+AgainstChange tree id change SameName =
+    OfPlaced tree id change (λ row. HasName tree (parent_then change row) id (name_then change row))
 AgainstChange tree id change UnderItself = OfPlaced tree id change (λ row. IsOnWay tree id (parent_then change row))
-AgainstChange tree id change TemporaryParent = OfPlaced tree id change (λ row. IsTemporary tree (parent_then change row))
+AgainstChange tree id change TemporaryParent =
+    OfPlaced tree id change (λ row. IsTemporary tree (parent_then change row))
 AgainstChange tree id change Nesting = OfPlaced tree id change (λ row. NestsTooDeep tree id (parent_then change row))
 AgainstChange tree id change LinkCount = Overlinks tree id change
 AgainstChange tree id change cause = ⊥
@@ -149,4 +156,5 @@ abbrev pub ChangesNameTheFirst : Type 0
 ChangesNameTheFirst =
     (tree : TreeState) (id : ChannelId) (change : Change) → IsProper tree
     → NamesFirst (AgainstChange tree id change)
-    (NoChannel ∷ RootFixed ∷ SameName ∷ UnderItself ∷ TemporaryParent ∷ Nesting ∷ LinkCount ∷ []) (fault_of_edit tree id change)
+    (NoChannel ∷ RootFixed ∷ SameName ∷ UnderItself ∷ TemporaryParent ∷ Nesting ∷ LinkCount ∷ [])
+    (fault_of_edit tree id change)

@@ -11,7 +11,7 @@ pub fn members_are_by_definitions()
     ensures guests { GuestsAreInNone }
 {}
 
-/// `!` before a name negates it, once, and `~` is read once, in whatever order they stand.
+/// `!` before a name negates it, once, and `~` is read once, in whatever order they are.
 pub fn prefixes_are_read()
     ensures { PrefixesAreRead }
 {}
@@ -23,7 +23,7 @@ pub fn names_are_known()
     ensures words { NamesAreKnown }
 {}
 
-/// `sub` with up to three arguments is for whoever is as far below the channel that the first leads to, down or behind
+/// `sub` with up to three arguments is for whoever is as far below the channel that the first leads to, down or after
 /// a `-` up, as the others say, and with more, or with one that is no argument, for nobody.
 pub fn sub_is_of_ways()
     ensures ways { SubIsOfWays }

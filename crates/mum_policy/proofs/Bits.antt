@@ -1,11 +1,5 @@
 -- Which single permissions a set holds.
-use Rattle.std.proofs.Common.{◌≡◌, ℕ, zero, suc, ◌-◌, ◌*◌, ◌^◌, ◌<◌, ◌==◌, ◌&&◌, ◌||◌, Bool, false, not, min, max, refl, sym, ap, ◌∙◌, bit_and, bit_or, w32, arith}
-use Rattle.std.specs.Int.{bit_at, bit_not}
-use Rattle.std.proofs.lemmas.Bool.{eq-eqb, ne_eqb}
-use Rattle.std.proofs.lemmas.Nat.Bits.{and_pow, bit_at_and, bit_at_or, bit_at_not, bit_at-lt, bit_at-zero}
-use Rattle.mum_base.specs.Perm.{without_bits}
-use Rattle.mum_policy.specs.Walk.{holds}
-use Rattle.mum_policy.specs.Laws.{IsPermission}
+use Rattle.mum_policy.proofs.Common.{◌≡◌, ℕ, zero, suc, ◌-◌, ◌*◌, ◌^◌, ◌<◌, ◌==◌, ◌&&◌, ◌||◌, Bool, false, not, min, max, refl, sym, ap, ◌∙◌, bit_and, bit_or, w32, arith, bit_at, bit_not, eq-eqb, ne_eqb, and_pow, bit_at_and, bit_at_or, bit_at_not, bit_at-lt, bit_at-zero, without_bits, holds, IsPermission}
 
 -- ---- one bit
 

@@ -1,19 +1,5 @@
 -- The last entry that names a permission decides it, in the marks and in the set of a walk.
-use Rattle.std.proofs.Common.{◌≡◌, ℕ, ◌^◌, ◌<◌, ◌&&◌, ◌||◌, Bool, true, false, not, List, [], ◌∷◌, ◌++◌, filter, find, reverse, refl, sym, ap, ◌∙◌, Option, Some, None, bit_or, cond, if◌then◌else◌}
-use Rattle.std.specs.Option.{option_or}
-use Rattle.std.specs.List.{All}
-use Rattle.std.proofs.lemmas.List.{reverse-append}
-use Rattle.std.proofs.lemmas.List.Elements.{All-head, All-nil, All-tail}
-use Rattle.std.proofs.lemmas.List.Folds.{find-append}
-use Rattle.mum_base.specs.Perm.{without_bits}
-use Rattle.mum_base.specs.declared.number.ChannelId.{ChannelId}
-use Rattle.mum_base.specs.declared.perm.TheConstants.Perm.{START, TRAVERSE, WRITE}
-use Rattle.mum_policy.specs.declared.policy.AclEntry.{AclEntry}
-use Rattle.mum_policy.specs.declared.policy.ChannelPolicy.{ChannelPolicy}
-use Rattle.mum_policy.specs.declared.walk.Walk.{Walk}
-use Rattle.mum_policy.specs.Member.{Actor, PolicyMap}
-use Rattle.mum_policy.specs.Walk.{after_channel, after_entries, after_match, applies, entering, granted, holds, marked, matches}
-use Rattle.mum_policy.specs.Laws.{AreDeniesIn32Bits, IsPermission, entries_of, held_after, held_by, last_naming, matching_at, names_permission, starts_over}
+use Rattle.mum_policy.proofs.Common.{◌≡◌, ℕ, ◌^◌, ◌<◌, ◌&&◌, ◌||◌, Bool, true, false, not, List, [], ◌∷◌, ◌++◌, filter, find, reverse, refl, sym, ap, ◌∙◌, Option, Some, None, bit_or, cond, if◌then◌else◌, option_or, All, reverse-append, All-head, All-nil, All-tail, find-append, without_bits, ChannelId, START, TRAVERSE, WRITE, AclEntry, ChannelPolicy, Walk, Actor, PolicyMap, after_channel, after_entries, after_match, applies, entering, granted, holds, marked, matches, AreDeniesIn32Bits, IsPermission, entries_of, held_after, held_by, last_naming, matching_at, names_permission, starts_over}
 use Rattle.mum_policy.proofs.Bits.{holds_or, holds_without}
 
 -- ---- a list of entries

@@ -1,18 +1,5 @@
 -- The arguments of `sub`, and the number that a few digits write.
-use Rattle.std.proofs.Common.{◌≡◌, ℕ, zero, suc, ◌+◌, ◌-◌, ◌*◌, ◌^◌, ◌<◌, ◌≤◌, ◌&&◌, Bool, true, false, cond, leb, ltb, List, [], ◌∷◌, length, get_or, take, drop, Option, Some, None, refl, sym, ap, ◌∙◌, add-one, inl, inr, arith}
-use Rattle.std.specs.Prelude.{position}
-use Rattle.std.specs.Char.{digit_value, is_ascii_digit}
-use Rattle.std.specs.List.{list_all, position_or_len, slice_split}
-use Rattle.std.specs.Str.Parse.{digits_value}
-use Rattle.std.proofs.Math.Nat.{pow-succ'}
-use Rattle.std.proofs.lemmas.Bool.{and_parts, cases_Bool, false≢true, leb-true, lt-ltb, ltb-false, ltb-true}
-use Rattle.std.proofs.lemmas.Int.Digits.{digits_value_more}
-use Rattle.std.proofs.lemmas.List.Splits.{length-slice_split, slice_split_first}
-use Rattle.std.proofs.lemmas.List.Sums.{AllPass-from_list_all}
-use Rattle.std.proofs.lemmas.Str.{digit_value_digit}
-use Rattle.mum_policy.specs.declared.subtree.Offset.{Offset}
-use Rattle.mum_policy.specs.declared.subtree.Span.{Span}
-use Rattle.mum_policy.specs.Subtree.{is_comma, is_number, offset_of, separated, span_by, span_of}
+use Rattle.mum_policy.proofs.Common.{◌≡◌, ℕ, zero, suc, ◌+◌, ◌-◌, ◌*◌, ◌^◌, ◌<◌, ◌≤◌, ◌&&◌, Bool, true, false, cond, leb, ltb, List, [], ◌∷◌, length, get_or, take, drop, Option, Some, None, refl, sym, ap, ◌∙◌, add-one, inl, inr, arith, position, digit_value, is_ascii_digit, list_all, position_or_len, slice_split, digits_value, pow-succ', and_parts, cases_Bool, false≢true, leb-true, lt-ltb, ltb-false, ltb-true, digits_value_more, length-slice_split, slice_split_first, AllPass-from_list_all, digit_value_digit, Offset, Span, is_comma, is_number, offset_of, separated, span_by, span_of}
 
 -- ---- digits
 

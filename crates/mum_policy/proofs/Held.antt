@@ -1,20 +1,6 @@
 -- What a session holds at the end of a path.
-use Rattle.std.proofs.Common.{◌≡◌, ℕ, suc, ◌+◌, ◌&&◌, ◌||◌, Bool, true, false, not, List, [], ◌∷◌, ◌++◌, bit_and, bit_or, filter, cond, refl, subst, sym, ap, ◌∙◌, Some, None, append_assoc, w32, arith, if◌then◌else◌}
-use Rattle.std.specs.Int.{bit_not}
-use Rattle.std.specs.List.{All, list_any, slice_get}
-use Rattle.std.proofs.lemmas.List.Elements.{All-head, All-tail}
-use Rattle.std.proofs.lemmas.Option.{same_Some}
-use Rattle.mum_base.specs.Perm.{Holds}
-use Rattle.mum_base.specs.declared.number.ChannelId.{ChannelId}
-use Rattle.mum_base.specs.declared.perm.TheConstants.Perm.{ALL, ROOT_ONLY, START, WRITE}
-use Rattle.mum_policy.specs.declared.policy.AclEntry.{AclEntry}
-use Rattle.mum_policy.specs.declared.walk.Walk.{Walk}
-use Rattle.mum_policy.specs.Member.{Actor, PolicyMap}
-use Rattle.mum_policy.specs.Walk.{after_channel, after_entries, after_match, along, applies, entering, finished, full_set, goes_on, granted, holds, is_asked, matches, on_root, perm, walk_start}
-use Rattle.mum_policy.specs.Laws.{AreGrantsKnown, EntriesDecide, IsPermission, LastNamingEntryDecides, NoWayBelow, NoWayThrough, NobodyHasMore, NothingOfTheRootElsewhere, SuperUserMayAll, counting, entries_of, held_after, is_held, is_super_user, leaves_a_mark, matching, starts_over}
-use Rattle.mum_policy.proofs.Sets.{all_but_voice, finished_holds, known_and, known_finished, known_full, known_or, none_elsewhere}
-use Rattle.mum_policy.proofs.Walks.{perm_super, perm_walked}
-use Rattle.mum_policy.proofs.Ways.{begun_on, ends, reaches, set_at_end, test_holds}
+use Rattle.mum_policy.proofs.Common.{◌≡◌, ℕ, suc, ◌+◌, ◌&&◌, ◌||◌, Bool, true, false, not, List, [], ◌∷◌, ◌++◌, bit_and, bit_or, filter, cond, refl, subst, sym, ap, ◌∙◌, Some, None, append_assoc, w32, arith, if◌then◌else◌, bit_not, All, list_any, slice_get, All-head, All-tail, same_Some, Holds, ChannelId, ALL, ROOT_ONLY, START, WRITE, AclEntry, Walk, Actor, PolicyMap, after_channel, after_entries, after_match, along, applies, entering, finished, full_set, goes_on, granted, holds, is_asked, matches, on_root, perm, walk_start, AreGrantsKnown, EntriesDecide, IsPermission, LastNamingEntryDecides, NoWayBelow, NoWayThrough, NobodyHasMore, NothingOfTheRootElsewhere, SuperUserMayAll, counting, entries_of, held_after, is_held, is_super_user, leaves_a_mark, matching, starts_over}
+use Rattle.mum_policy.proofs.{Sets.all_but_voice, Sets.finished_holds, Sets.known_and, Sets.known_finished, Sets.known_full, Sets.known_or, Sets.none_elsewhere, Walks.perm_super, Walks.perm_walked, Ways.begun_on, Ways.ends, Ways.reaches, Ways.set_at_end, Ways.test_holds}
 
 -- ---- what the entries decide
 

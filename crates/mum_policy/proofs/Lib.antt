@@ -1,3 +1,5 @@
+mod Common
+pub mod Public
 pub mod Reading
 pub mod Members
 pub mod Paths

@@ -1,15 +1,5 @@
 -- The nearest definition that speaks of an account decides.
-use Rattle.std.proofs.Common.{◌≡◌, ℕ, ◌==◌, ◌||◌, ◌&&◌, Bool, true, false, not, List, [], ◌∷◌, ◌++◌, length, map, reverse, refl, ap, ◌∙◌, if◌then◌else◌, Option, Some, None, arith}
-use Rattle.std.specs.List.{list_any}
-use Rattle.std.specs.Option.{unwrap_or}
-use Rattle.std.proofs.lemmas.Bool.{eqb-true}
-use Rattle.std.proofs.lemmas.List.{reverse-append}
-use Rattle.std.proofs.lemmas.List.Folds.{list_any-append}
-use Rattle.std.proofs.lemmas.Map.Views.{any-filter_same}
-use Rattle.mum_base.specs.declared.number.AccountId.{AccountId}
-use Rattle.mum_base.specs.declared.number.ChannelId.{ChannelId}
-use Rattle.mum_policy.specs.declared.policy.Group.{Group}
-use Rattle.mum_policy.specs.Member.{PolicyMap, definition, taken, definitions_from, lists, without, members}
+use Rattle.mum_policy.proofs.Common.{◌≡◌, ℕ, ◌==◌, ◌||◌, ◌&&◌, Bool, true, false, not, List, [], ◌∷◌, ◌++◌, length, map, reverse, refl, ap, ◌∙◌, if◌then◌else◌, Option, Some, None, arith, list_any, unwrap_or, eqb-true, reverse-append, list_any-append, any-filter_same, AccountId, ChannelId, Group, PolicyMap, definition, taken, definitions_from, lists, without, members}
 
 -- ---- one definition
 

@@ -1,9 +1,5 @@
 -- The policies of a path, where some are found already.
-use Rattle.std.proofs.Common.{◌≡◌, ℕ, zero, suc, ◌<◌, List, [], ◌∷◌, ◌++◌, length, map, get_or, Option, None, refl, sym, ap, ◌∙◌, append_assoc, length-append, arith}
-use Rattle.std.proofs.lemmas.List.{length-map}
-use Rattle.mum_base.specs.declared.number.ChannelId.{ChannelId}
-use Rattle.mum_policy.specs.declared.policy.ChannelPolicy.{ChannelPolicy}
-use Rattle.mum_policy.specs.Member.{IsFound, PolicyMap}
+use Rattle.mum_policy.proofs.Common.{◌≡◌, ℕ, zero, suc, ◌<◌, List, [], ◌∷◌, ◌++◌, length, map, get_or, Option, None, refl, sym, ap, ◌∙◌, append_assoc, length-append, arith, length-map, ChannelId, ChannelPolicy, IsFound, PolicyMap}
 
 -- the channel that ends a part of the path
 ends_with : {X : Type 0} (rest tail : List X) (x d : X) → get_or (rest ++ x ∷ tail) (length rest) d ≡ x

@@ -1,10 +1,5 @@
 -- The channel that ends a path is the first of the path upwards.
-use Rattle.std.proofs.Common.{◌≡◌, ℕ, suc, ◌-◌, add-one, ◌<◌, ◌==◌, List, [], ◌∷◌, length, take, get_or, reverse, refl, sym, ap, ◌∙◌, arith}
-use Rattle.std.proofs.Math.Seq.{take-suc}
-use Rattle.std.proofs.lemmas.List.{reverse-append, take_all}
-use Rattle.mum_base.specs.declared.number.ChannelId.{ChannelId}
-use Rattle.mum_policy.specs.Member.{Actor, is_in, upwards}
-use Rattle.mum_policy.specs.Walk.{is_root}
+use Rattle.mum_policy.proofs.Common.{◌≡◌, ℕ, suc, ◌-◌, add-one, ◌<◌, ◌==◌, List, [], ◌∷◌, length, take, get_or, reverse, refl, sym, ap, ◌∙◌, arith, take-suc, reverse-append, take_all, ChannelId, Actor, is_in, upwards, is_root}
 
 upwards_from : (path : List ChannelId) (d : ChannelId) → 0 < length path → reverse path ≡ get_or path (length path - 1) d ∷ reverse (take (length path - 1) path)
 upwards_from path d some =

@@ -1,11 +1,5 @@
 -- One prefix of a group name more is read.
-use Rattle.std.proofs.Common.{◌≡◌, ◌≢◌, ◌∙◌, ℕ, Bool, true, List, [], ◌∷◌, codes, length, refl, ap, arith}
-use Rattle.std.specs.Str.{bytes_eq}
-use Rattle.std.proofs.lemmas.Bool.{ne_eqb}
-use Rattle.std.proofs.lemmas.Slice.Eq.{bytes_eq-Decides}
-use Rattle.mum_base.specs.declared.number.ChannelId.{ChannelId}
-use Rattle.mum_policy.specs.Member.{Actor, PolicyMap, meets, member}
-use Rattle.mum_policy.specs.Name.{Understood, asked_by, meaning, understood_after}
+use Rattle.mum_policy.proofs.Common.{◌≡◌, ◌≢◌, ◌∙◌, ℕ, Bool, true, List, [], ◌∷◌, codes, length, refl, ap, arith, bytes_eq, ne_eqb, bytes_eq-Decides, ChannelId, Actor, PolicyMap, meets, member, Understood, asked_by, meaning, understood_after}
 
 abbrev pub read : Bool → Bool → List ℕ → Understood
 read negated at_acl name = record { negated = negated; at_acl = at_acl; asks = asked_by name }

@@ -1,14 +1,6 @@
 -- Small policies of which worked facts speak.
-use Rattle.std.proofs.Common.{ℕ, true, false, List, [], ◌∷◌, codes, map}
-use Rattle.mum_base.specs.declared.number.AccountId.{AccountId}
-use Rattle.mum_base.specs.declared.number.ChannelId.{ChannelId}
-use Rattle.mum_base.specs.declared.perm.Perm.{Perm}
-use Rattle.mum_base.specs.declared.perm.TheConstants.Perm.{NONE}
-use Rattle.mum_policy.specs.declared.policy.AclEntry.{AclEntry}
-use Rattle.mum_policy.specs.declared.policy.ChannelPolicy.{ChannelPolicy}
-use Rattle.mum_policy.specs.declared.policy.Group.{Group as GroupRow}
-use Rattle.mum_policy.specs.declared.policy.Whom.{Whom}
-use Rattle.mum_policy.specs.declared.policy.Whom.TheVariants.{Account, Group}
+use Rattle.mum_policy.proofs.Common.{ℕ, true, false, List, [], ◌∷◌, codes, map, AccountId, ChannelId, Perm, NONE, AclEntry, ChannelPolicy, GroupRow, Whom, Account}
+use Rattle.mum_policy.specs.declared.policy.Whom.TheVariants.{Group}
 
 abbrev pub account : ℕ → AccountId
 account number = record { 0 = number }

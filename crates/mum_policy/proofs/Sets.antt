@@ -1,14 +1,5 @@
 -- What the end of a walk makes of its set.
-use Rattle.std.proofs.Common.{◌≡◌, ℕ, ◌&&◌, ◌||◌, Bool, true, false, not, min, max, bit_and, bit_or, w32, refl, sym, ap, ◌∙◌, arith, if◌then◌else◌}
-use Rattle.std.specs.Int.{bit_at, bit_not}
-use Rattle.std.specs.Int.Bits.{and_zero_r}
-use Rattle.std.proofs.lemmas.Bool.{true≢false}
-use Rattle.std.proofs.lemmas.Nat.{and_assoc}
-use Rattle.std.proofs.lemmas.Nat.Bits.{bit_at_and, bit_at_or, same_from_bits}
-use Rattle.mum_base.specs.Perm.{Holds, without_bits}
-use Rattle.mum_base.specs.declared.perm.TheConstants.Perm.{ALL, BY_WRITE, ROOT_ONLY, SPEAK, WHISPER, WRITE}
-use Rattle.mum_policy.specs.Walk.{finished, full_set, holds}
-use Rattle.mum_policy.specs.Laws.{IsPermission, NothingElseIsTaken, WriteAddsTheRest}
+use Rattle.mum_policy.proofs.Common.{◌≡◌, ℕ, ◌&&◌, ◌||◌, Bool, true, false, not, min, max, bit_and, bit_or, w32, refl, sym, ap, ◌∙◌, arith, if◌then◌else◌, bit_at, bit_not, and_zero_r, true≢false, and_assoc, bit_at_and, bit_at_or, same_from_bits, Holds, without_bits, ALL, BY_WRITE, ROOT_ONLY, SPEAK, WHISPER, WRITE, finished, full_set, holds, IsPermission, NothingElseIsTaken, WriteAddsTheRest}
 use Rattle.mum_policy.proofs.Bits.{holds_and, holds_none, holds_or, holds_without}
 
 -- ---- one permission

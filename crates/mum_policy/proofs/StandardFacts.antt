@@ -1,17 +1,5 @@
 -- What the Murmur manual says of access control lists and groups, worked out on a chain of channels.
-use Rattle.std.proofs.Common.{◌≡◌, ℕ, ◌+◌, ◌-◌, ◌==◌, Bool, true, false, List, [], ◌∷◌, ◌++◌, codes, filter, map, replicate, take, Some, None, refl, if◌then◌else◌}
-use Rattle.std.specs.List.{slice_split}
-use Rattle.mum_base.specs.declared.number.ChannelId.{ChannelId}
-use Rattle.mum_base.specs.declared.perm.Perm.{Perm}
-use Rattle.mum_base.specs.declared.perm.TheConstants.Perm.{ALL, BAN, ENTER, KICK, MAKE_CHANNEL, MOVE, MUTE_DEAFEN, ROOT_ONLY, SPEAK, START, TEXT_MESSAGE, TRAVERSE, WHISPER, WRITE}
-use Rattle.mum_policy.specs.declared.policy.ChannelPolicy.{ChannelPolicy}
-use Rattle.mum_policy.specs.declared.policy.Group.{Group}
-use Rattle.mum_policy.specs.declared.policy.Whom.{Whom}
-use Rattle.mum_policy.specs.Limits.{is_large_policy}
-use Rattle.mum_policy.specs.Member.{Actor, PolicyMap, definition, definitions_from, has_token, is_in, is_listed, meets, member, members}
-use Rattle.mum_policy.specs.Name.{asked_by, is_built_in_without_members, meaning, understood_after}
-use Rattle.mum_policy.specs.Subtree.{is_below, offset_of, span_of}
-use Rattle.mum_policy.specs.Walk.{after_channel, after_entries, after_match, along, is_root, matches, perm}
+use Rattle.mum_policy.proofs.Common.{◌≡◌, ℕ, ◌+◌, ◌-◌, ◌==◌, Bool, true, false, List, [], ◌∷◌, ◌++◌, codes, filter, map, replicate, take, Some, None, refl, if◌then◌else◌, slice_split, ChannelId, Perm, ALL, BAN, ENTER, KICK, MAKE_CHANNEL, MOVE, MUTE_DEAFEN, ROOT_ONLY, SPEAK, START, TEXT_MESSAGE, TRAVERSE, WHISPER, WRITE, ChannelPolicy, Group, Whom, is_large_policy, Actor, PolicyMap, definition, definitions_from, has_token, is_in, is_listed, meets, member, members, asked_by, is_built_in_without_members, meaning, understood_after, is_below, offset_of, span_of, after_channel, after_entries, after_match, along, is_root, matches, perm}
 use Rattle.mum_policy.proofs.Scenes.{account, afresh, channel, defines, defines_and, denies, entry, everybody, grants, group, not_inheritable, not_inheriting, nowhere, one, only_below, only_here, plain, policy, the_account, those_in, two}
 
 -- ---- the channels: the root, A below it, B below A, and C below B

@@ -1,14 +1,5 @@
 -- One entry more, and one channel more, of a walk.
-use Rattle.std.proofs.Common.{◌≡◌, ℕ, suc, ◌+◌, ◌<◌, ◌≤◌, ◌==◌, Bool, true, false, List, ◌∷◌, length, get_or, drop, refl, sym, ap, ◌∙◌, drop-cons, add-one, add-zero, arith, inl, inr, Option, Some, None, if◌then◌else◌}
-use Rattle.std.proofs.Math.ListN.{drop_of_length-le}
-use Rattle.std.proofs.lemmas.Bool.{cases_lt, eq-eqb, ne_eqb}
-use Rattle.mum_base.specs.declared.number.TheConstants.AccountId.{SUPER_USER}
-use Rattle.mum_base.specs.declared.number.ChannelId.{ChannelId}
-use Rattle.mum_policy.specs.declared.policy.AclEntry.{AclEntry}
-use Rattle.mum_policy.specs.declared.policy.ChannelPolicy.{ChannelPolicy}
-use Rattle.mum_policy.specs.declared.walk.Walk.{Walk}
-use Rattle.mum_policy.specs.Member.{Actor, PolicyMap}
-use Rattle.mum_policy.specs.Walk.{goes_on, after_match, after_entries, after_policy, after_channel, entry_count, is_asked, along, visits_along, is_account, full_set, on_root, set_of, perm, visits, walk_start}
+use Rattle.mum_policy.proofs.Common.{◌≡◌, ℕ, suc, ◌+◌, ◌<◌, ◌≤◌, ◌==◌, Bool, true, false, List, ◌∷◌, length, get_or, drop, refl, sym, ap, ◌∙◌, drop-cons, add-one, add-zero, arith, inl, inr, Option, Some, None, if◌then◌else◌, drop_of_length-le, cases_lt, eq-eqb, ne_eqb, SUPER_USER, ChannelId, AclEntry, ChannelPolicy, Walk, Actor, PolicyMap, goes_on, after_match, after_entries, after_policy, after_channel, entry_count, is_asked, along, visits_along, is_account, full_set, on_root, set_of, perm, visits, walk_start}
 
 -- ---- entries
 

@@ -1,14 +1,5 @@
 -- The whole way of a walk: where it ends, and which set it ends with.
-use Rattle.std.proofs.Common.{◌≡◌, ℕ, ◌+◌, ◌||◌, Bool, true, false, List, [], ◌∷◌, ◌++◌, filter, refl, sym, ap, ◌∙◌, Option, Some, None, append-nil, if◌then◌else◌}
-use Rattle.std.specs.List.{list_any}
-use Rattle.std.proofs.lemmas.Option.{none-some, same_Some}
-use Rattle.mum_base.specs.declared.number.ChannelId.{ChannelId}
-use Rattle.mum_base.specs.declared.perm.TheConstants.Perm.{START, TRAVERSE, WRITE}
-use Rattle.mum_policy.specs.declared.policy.AclEntry.{AclEntry}
-use Rattle.mum_policy.specs.declared.walk.Walk.{Walk}
-use Rattle.mum_policy.specs.Member.{Actor, PolicyMap}
-use Rattle.mum_policy.specs.Walk.{after_channel, along, applies, goes_on, holds, is_asked}
-use Rattle.mum_policy.specs.Laws.{AreDeniesIn32Bits, IsPermission, counting, held_after, matching, matching_at, starts_over}
+use Rattle.mum_policy.proofs.Common.{◌≡◌, ℕ, ◌+◌, ◌||◌, Bool, true, false, List, [], ◌∷◌, ◌++◌, filter, refl, sym, ap, ◌∙◌, Option, Some, None, append-nil, if◌then◌else◌, list_any, none-some, same_Some, ChannelId, START, TRAVERSE, WRITE, AclEntry, Walk, Actor, PolicyMap, after_channel, along, applies, goes_on, holds, is_asked, AreDeniesIn32Bits, IsPermission, counting, held_after, matching, matching_at, starts_over}
 use Rattle.mum_policy.proofs.Decisions.{held_after-append, set_passed, traverse_passed, write_passed}
 
 -- ---- where it ends

@@ -2,12 +2,9 @@
 use Rattle.std.specs.Prelude.{◌≡◌, ℕ, ◌+◌, ◌^◌, ◌<◌, ◌&&◌, ◌||◌, Bool, true, false, not, List, [], ◌∷◌, ◌++◌, bit_and, bit_or, filter, find, reverse, Option, Some, None, if◌then◌else◌}
 use Rattle.std.specs.List.{All, list_any, slice_get}
 use Rattle.mum_base.specs.Perm.{Holds, without_bits}
-use Rattle.mum_base.specs.declared.number.ChannelId.{ChannelId}
-use Rattle.mum_base.specs.declared.number.TheConstants.AccountId.{SUPER_USER}
+use Rattle.mum_base.specs.declared.number.{ChannelId.ChannelId, TheConstants.AccountId.SUPER_USER}
 use Rattle.mum_base.specs.declared.perm.TheConstants.Perm.{ALL, BY_WRITE, ROOT_ONLY, SPEAK, START, TRAVERSE, WHISPER, WRITE}
-use Rattle.mum_policy.specs.declared.policy.AclEntry.{AclEntry}
-use Rattle.mum_policy.specs.declared.policy.ChannelPolicy.{ChannelPolicy}
-use Rattle.mum_policy.specs.declared.walk.Walk.{Walk}
+use Rattle.mum_policy.specs.declared.{policy.AclEntry.AclEntry, policy.ChannelPolicy.ChannelPolicy, walk.Walk.Walk}
 use Rattle.mum_policy.specs.Member.{Actor, PolicyMap}
 use Rattle.mum_policy.specs.Walk.{along, applies, finished, full_set, holds, is_account, is_asked, matches, on_root, perm, walk_start}
 

@@ -2,11 +2,9 @@
 use Rattle.std.specs.Prelude.{◌||◌, nat_lt, Bool, false, length}
 use Rattle.std.specs.List.{list_any}
 use Rattle.mum_base.specs.declared.name.TheConstants.{NAME_LIMIT}
-use Rattle.mum_policy.specs.declared.policy.ChannelPolicy.{ChannelPolicy}
-use Rattle.mum_policy.specs.declared.policy.Group.{Group as GroupRow}
+use Rattle.mum_policy.specs.declared.policy.{ChannelPolicy.ChannelPolicy, Group.Group as GroupRow}
 use Rattle.mum_policy.specs.declared.policy.TheConstants.{ENTRIES, GROUPS, GROUP_ACCOUNTS}
-use Rattle.mum_policy.specs.declared.policy.Whom.{Whom}
-use Rattle.mum_policy.specs.declared.policy.Whom.TheVariants.{Account, Group}
+use Rattle.mum_policy.specs.declared.policy.Whom.{Whom, TheVariants.Account, TheVariants.Group}
 
 -- it adds or removes more accounts than a group may
 abbrev pub is_large_group : GroupRow → Bool

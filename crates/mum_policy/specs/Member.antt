@@ -1,14 +1,9 @@
 -- Which sessions are in a group: "Groups" of the Murmur manual.
 use Rattle.std.specs.Prelude.{◌≡◌, ℕ, ◌-◌, ◌+◌, ◌<◌, ◌==◌, ◌&&◌, Bool, true, false, not, List, [], ◌∷◌, ◌++◌, length, map, take, filter, find, reverse, slice_index_or, Option, Some, None, is_some, if◌then◌else◌}
-use Rattle.std.specs.List.{list_any}
-use Rattle.std.specs.Str.{bytes_eq, str_eq_ignore_ascii_case}
-use Rattle.mum_base.specs.declared.number.AccountId.{AccountId}
-use Rattle.mum_base.specs.declared.number.ChannelId.{ChannelId}
-use Rattle.mum_policy.specs.declared.policy.Group.{Group}
-use Rattle.mum_policy.specs.declared.policy.ChannelPolicy.{ChannelPolicy}
-use Rattle.mum_policy.specs.declared.policy.Who.{Who}
-use Rattle.mum_policy.specs.Name.{Asks, Understood, understood}
-use Rattle.mum_policy.specs.Subtree.{is_below}
+use Rattle.std.specs.{List.list_any, Str.bytes_eq, Str.str_eq_ignore_ascii_case}
+use Rattle.mum_base.specs.declared.number.{AccountId.AccountId, ChannelId.ChannelId}
+use Rattle.mum_policy.specs.declared.policy.{Group.Group, ChannelPolicy.ChannelPolicy, Who.Who}
+use Rattle.mum_policy.specs.{Name.Asks, Name.Understood, Name.understood, Subtree.is_below}
 
 -- the policies of channels
 abbrev pub PolicyMap : Type 0
@@ -63,7 +58,8 @@ is_listed groups (Some account) = lists (members groups) account
 -- these are the policies of the first channels of a path
 abbrev pub IsFound : PolicyMap → List ChannelId → List (Option ChannelPolicy) → Type 0
 IsFound policies path found =
-    (i : ℕ) (d : ChannelId) → i < length path → i < length found → slice_index_or found i None ≡ policies (slice_index_or path i d)
+    (i : ℕ) (d : ChannelId) → i < length path → i < length found
+    → slice_index_or found i None ≡ policies (slice_index_or path i d)
 
 -- ---- the session
 

@@ -1,12 +1,8 @@
 -- What a group name asks of a session: the prefixes and the names of the Murmur manual's "Groups".
 use Rattle.std.specs.Prelude.{ℕ, ◌==◌, ◌||◌, Bool, true, false, List, [], ◌∷◌, codes, drop, nat_eq, Option, Some, None, if◌then◌else◌}
-use Rattle.std.specs.List.{starts_with}
-use Rattle.std.specs.Option.{option_copied}
-use Rattle.std.specs.Str.{bytes_eq}
-use Rattle.mum_policy.specs.declared.name.Asked.{Asked}
+use Rattle.std.specs.{List.starts_with, Option.option_copied, Str.bytes_eq}
+use Rattle.mum_policy.specs.declared.{name.Asked.Asked, name.GroupName.GroupName, subtree.Span.Span}
 use Rattle.mum_policy.specs.declared.name.Asked.TheVariants.{Nobody, Everybody, Registered, Inside, Outside, Token, Subtree, Defined}
-use Rattle.mum_policy.specs.declared.name.GroupName.{GroupName}
-use Rattle.mum_policy.specs.declared.subtree.Span.{Span}
 use Rattle.mum_policy.specs.Subtree.{list_of, span_of}
 
 -- what a group name asks of a session, without where its bytes lie in memory

@@ -1,11 +1,9 @@
 -- The group `sub` and its arguments: "Groups" of the Murmur manual, in this server's own profile.
 use Rattle.std.specs.Prelude.{ℕ, ◌+◌, ◌-◌, ◌==◌, ◌&&◌, nat_le, nat_lt, Bool, true, false, List, [], ◌∷◌, length, slice_index_or, Option, Some, None, if◌then◌else◌}
-use Rattle.std.specs.Char.{is_ascii_digit}
+use Rattle.std.specs.{Char.is_ascii_digit, Str.Parse.digits_value}
 use Rattle.std.specs.List.{list_all, list_any, slice_get, slice_split}
-use Rattle.std.specs.Str.Parse.{digits_value}
 use Rattle.mum_base.specs.declared.number.ChannelId.{ChannelId}
-use Rattle.mum_policy.specs.declared.subtree.Offset.{Offset}
-use Rattle.mum_policy.specs.declared.subtree.Span.{Span}
+use Rattle.mum_policy.specs.declared.subtree.{Offset.Offset, Span.Span}
 
 -- ---- the arguments
 

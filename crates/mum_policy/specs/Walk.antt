@@ -1,17 +1,11 @@
 -- What a session may do in a channel: "ACL" of the Murmur manual.
 use Rattle.std.specs.Prelude.{ℕ, ◌+◌, ◌==◌, ◌&&◌, ◌||◌, ◌≡◌, Bool, true, false, not, List, [], ◌∷◌, length, reverse, bit_and, bit_or, Option, Some, None, if◌then◌else◌}
 use Rattle.mum_base.specs.Perm.{without_bits}
-use Rattle.mum_base.specs.declared.number.AccountId.{AccountId}
-use Rattle.mum_base.specs.declared.number.ChannelId.{ChannelId}
-use Rattle.mum_base.specs.declared.number.TheConstants.AccountId.{SUPER_USER}
-use Rattle.mum_base.specs.declared.number.TheConstants.ChannelId.{ROOT}
-use Rattle.mum_base.specs.declared.perm.Perm.{Perm}
+use Rattle.mum_base.specs.declared.number.{AccountId.AccountId, ChannelId.ChannelId, TheConstants.AccountId.SUPER_USER}
+use Rattle.mum_base.specs.declared.{number.TheConstants.ChannelId.ROOT, perm.Perm.Perm}
 use Rattle.mum_base.specs.declared.perm.TheConstants.Perm.{BY_WRITE, ROOT_ONLY, START, TRAVERSE, WRITE}
-use Rattle.mum_policy.specs.declared.policy.AclEntry.{AclEntry}
-use Rattle.mum_policy.specs.declared.policy.ChannelPolicy.{ChannelPolicy}
-use Rattle.mum_policy.specs.declared.policy.Whom.{Whom}
-use Rattle.mum_policy.specs.declared.policy.Whom.TheVariants.{Account, Group}
-use Rattle.mum_policy.specs.declared.walk.Walk.{Walk}
+use Rattle.mum_policy.specs.declared.policy.{AclEntry.AclEntry, ChannelPolicy.ChannelPolicy, Whom.Whom}
+use Rattle.mum_policy.specs.declared.{policy.Whom.TheVariants.Account, policy.Whom.TheVariants.Group, walk.Walk.Walk}
 use Rattle.mum_policy.specs.Member.{Actor, PolicyMap, member}
 
 -- ---- permissions
@@ -118,7 +112,8 @@ unfoldable pub visits_along : PolicyMap → List ChannelId → Actor → ℕ →
 visits_along policies path who place [] walk = 0
 visits_along policies path who place (channel ∷ below) walk =
     let after : Walk = after_channel policies path who place (is_asked below) (policies channel) walk in
-    entry_count (policies channel) + (if goes_on after then visits_along policies path who (place + 1) below after else 0)
+    entry_count (policies channel)
+    + (if goes_on after then visits_along policies path who (place + 1) below after else 0)
 
 -- ---- the answer
 

@@ -7,10 +7,10 @@ ghost use Rattle.mum_policy.specs.Member.{IsFound};
 use crate::policy::{ChannelPolicy, Policies};
 use mum_base::ChannelId;
 
-/// The most policies of a path that are kept during a walk. No path of a tree is longer.
+// The most policies of a path that are kept during a walk. No path of a tree is longer.
 pub(crate) const KEPT: usize = 33;
 
-/// The policies of the first channels of a path, by their places.
+// The policies of the first channels of a path, by their places.
 pub(crate) fn found_on<'a, P: Policies>(
     policies: &'a P,
     path: &[ChannelId],
@@ -26,7 +26,7 @@ pub(crate) fn found_on<'a, P: Policies>(
     found
 }
 
-/// The policy of the channel at a place, which is looked up where it is not among those that were found.
+// The policy of the channel at a place, which is looked up where it is not among those that were found.
 pub(crate) fn policy_at<'a, P: Policies>(
     policies: &'a P,
     found: &[Option<&'a ChannelPolicy>],

@@ -128,8 +128,8 @@ fn is_everybody(name: &[u8]) -> bool
     name == b"all".as_slice()
 }
 
-/// The same, where these are the policies of the first channels of the path. A name that is `all` is not read
-/// further.
+// The same, where these are the policies of the first channels of the path. A name that is `all` is not read
+// further.
 #[tactic(auto, unfolding(crate::specs::Member::member))]
 pub(crate) fn member_of<'a, P: Policies>(
     policies: &'a P,

@@ -3,7 +3,7 @@
 ghost use Rattle.std.specs.Prelude.{◌≡◌};
 ghost use Rattle.mum_policy.specs.Name.{asked_by, asks_of, is_built_in_without_members, meaning, reading_of, understood};
 
-/// What a group name asks of a session, behind its prefixes.
+// What a group name asks of a session, after its prefixes.
 #[derive(Clone, Copy)]
 pub(crate) enum Asked<'a> {
     Nobody,
@@ -22,7 +22,7 @@ pub(crate) enum Asked<'a> {
     Defined(&'a [u8]),
 }
 
-/// A group name that was read.
+// A group name that was read.
 #[derive(Clone, Copy)]
 pub(crate) struct GroupName<'a> {
     pub(crate) negated: bool,
@@ -73,7 +73,7 @@ fn asked_behind(name: &[u8]) -> Asked<'_>
     }
 }
 
-/// Reads a group name: its prefixes from the front, and then what is asked.
+// Reads a group name: its prefixes from the front, and then what is asked.
 pub(crate) fn understand(name: &[u8]) -> GroupName<'_>
     ensures { reading_of result ≡ understood name.now }
 {

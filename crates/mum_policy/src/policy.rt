@@ -84,7 +84,7 @@ impl Whom {
         }
     }
 
-    /// Whether the group name, with its prefixes, has more than 128 bytes.
+    // Whether the group name, with its prefixes, has more than 128 bytes.
     fn is_long(&self) -> bool
         ensures { result ≡ is_long_whom self.now }
     {

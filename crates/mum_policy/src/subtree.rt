@@ -19,14 +19,14 @@ const MOST: u16 = 1000;
 // The most digits of an argument.
 const DIGITS: usize = 4;
 
-/// A number of steps down a path, or up it.
+// A number of steps down a path, or up it.
 #[derive(Clone, Copy)]
 pub(crate) struct Offset {
     pub(crate) negative: bool,
     pub(crate) size: u16,
 }
 
-/// The three arguments of `sub`.
+// The three arguments of `sub`.
 #[derive(Clone, Copy)]
 pub(crate) struct Span {
     /// From the channel of the list to the channel whose subtree is meant.
@@ -225,8 +225,8 @@ fn is_below(path: &[ChannelId], acl_at: usize, span: Span, home: &[ChannelId]) -
     }
 }
 
-/// Whether a session whose channel ends the path `home` is in the span that a list of arguments
-/// describes, below the channel at `acl_at` of the path; nobody is where the list describes none.
+// Whether a session whose channel ends the path `home` is in the span that a list of arguments
+// describes, below the channel at `acl_at` of the path; nobody is where the list describes none.
 pub(crate) fn is_in_subtree(
     path: &[ChannelId],
     acl_at: usize,

@@ -12,7 +12,7 @@ use mum_base::{AccountId, ChannelId, Perm, Steps};
 use std::marker::Brand;
 use std::sync::ledger::{Blank, Ledger};
 
-/// How far a walk has come.
+// How far a walk has come.
 #[derive(Clone, Copy)]
 pub(crate) struct Walk {
     pub(crate) set: Perm,
@@ -113,7 +113,8 @@ fn speaks_of<'a, P: Policies>(
     }
 }
 
-// The walk after the channel at this place of the path, which has this policy. A step is an entry.
+// The walk after the channel at this place of the path, which has this policy. A step is an entry. That an entry is
+// matched once a step is not proved; `bench/run` measures a decision beside one walk.
 fn pass_channel<'a, P: Policies, L: Ledger>(
     policies: &'a P,
     found: &[Option<&'a ChannelPolicy>],
@@ -126,7 +127,9 @@ fn pass_channel<'a, P: Policies, L: Ledger>(
 ) -> Walk
     requires within { place < length path.now }
     requires found { IsFound (P.policy_of policies.now) path.now (map option_copied found.now) }
-    ensures walk { result ≡ after_policy (P.policy_of policies.now) path.now (actor_of who.now) place (place + 1 == length path.now) policy.now walk }
+    ensures walk { result
+        ≡ after_policy (P.policy_of policies.now) path.now (actor_of who.now) place
+        (place + 1 == length path.now) policy.now walk }
     ensures steps { steps.new ≡ steps.old + length policy.now.acls }
 {
     let asked = place + 1 == path.len();

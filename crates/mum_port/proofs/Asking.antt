@@ -1,10 +1,5 @@
 -- What a frame asks for is a command of a frame.
-use Rattle.std.proofs.Common.{◌≡◌, ℕ, List, refl, sym}
-use Rattle.mum_session.specs.Action.{action}
-use Rattle.mum_session.specs.Machine.{Machine}
-use Rattle.mum_session.specs.declared.action.Action.{Action}
-use Rattle.mum_session.specs.declared.action.Action.TheVariants.{Ask, Bans, Echo, Ignore, Keep, Voice}
-use Rattle.mum_port.specs.Asked.{AsksAsHeard}
+use Rattle.mum_port.proofs.Common.{◌≡◌, ℕ, List, refl, sym, action, Machine, Action, Ask, Bans, Echo, Ignore, Keep, Voice, AsksAsHeard}
 
 pub asks-as_heard : (machine : Machine) (kind : ℕ) (payload : List ℕ) (asked : Action) → asked ≡ action machine kind payload → AsksAsHeard asked
 asks-as_heard machine kind payload (Ask command) is =

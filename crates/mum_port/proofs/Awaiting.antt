@@ -1,23 +1,7 @@
--- Behind a command no frame is handled before a reply.
-use Rattle.std.proofs.Common.{◌≡◌, ℕ, true, List, [], ◌∷◌, ◌++◌, Option, Some, None, refl, sym, ap, ◌∙◌, inl, inr, true≢false, not}
-use Rattle.std.specs.Option.{option_map}
-use Rattle.std.specs.Prelude.{option_to_list}
-use Rattle.mum_base.specs.declared.number.SessionId.{SessionId}
-use Rattle.mum_frame.specs.declared.frame.Frame.{Frame}
-use Rattle.mum_io.specs.Link.{LinkFacts}
-use Rattle.mum_session.specs.Action.{action, after_frame, asks}
-use Rattle.mum_session.specs.Machine.{Machine, session_of}
-use Rattle.mum_session.proofs.Lists.{sends}
-use Rattle.mum_session.specs.declared.action.Action.{Action}
-use Rattle.mum_session.specs.declared.action.Action.TheVariants.{Ask, Bans}
-use Rattle.mum_port.specs.Did.{PortDid, asked_item, machine_after, port_after_put}
-use Rattle.mum_port.specs.Facts.{PortFacts, item_of}
-use Rattle.mum_port.specs.Life.{AreUnanswered, Event, Lives, Steps, frames_handled, lagged, replied, stepped}
-use Rattle.mum_port.specs.Stage.{is_live}
-use Rattle.mum_port.specs.declared.item.DeskItem.{DeskItem}
+-- After a command no frame is handled before a reply.
+use Rattle.mum_port.proofs.Common.{◌≡◌, ℕ, true, List, [], ◌∷◌, ◌++◌, Option, Some, None, refl, sym, ap, ◌∙◌, inl, inr, true≢false, not, option_map, option_to_list, SessionId, Frame, LinkFacts, action, after_frame, asks, Machine, session_of, sends, Action, Ask, Bans, PortDid, asked_item, machine_after, port_after_put, PortFacts, item_of, AreUnanswered, Event, Lives, Steps, frames_handled, lagged, replied, stepped, is_live, DeskItem}
+use Rattle.mum_port.proofs.{Closing.and-left, Idle.and-right}
 use Rattle.mum_port.specs.declared.item.DeskItem.TheVariants as items
-use Rattle.mum_port.proofs.Closing.{and-left}
-use Rattle.mum_port.proofs.Idle.{and-right}
 
 pub asks-some : (connection : ℕ) (session : Option SessionId) (asked : Action) (item : DeskItem) → item_of connection session asked ≡ Some item → asks asked ≡ true
 asks-some connection session (Ask command) item is = refl
@@ -67,7 +51,7 @@ module _ {L V : Type 0} (facts : L → LinkFacts) (routed : V → ℕ → Sessio
   life_waits old (lagged cause ∷ events) new (mid, inr lags, lives) awaits unanswered =
       life_waits mid events new lives (ap (λ (p : PortFacts L). p.machine.awaits) lags.2.rest ∙ awaits) unanswered
 
-  -- behind a frame that asks for a command a reply is awaited
+  -- after a frame that asks for a command a reply is awaited
   pub awaits_then : (old new : PortFacts L) (machine : Machine) (did : PortDid) (item : DeskItem) → Steps facts routed old machine did new
       → asked_item machine did.handled ≡ Some item → new.machine.awaits ≡ true
   awaits_then old new machine did item steps asked =

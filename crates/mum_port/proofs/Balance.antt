@@ -1,23 +1,6 @@
 -- The bytes of a step: what was read, handled and kept, and what was to be written, was written and is kept.
-use Rattle.std.proofs.Common.{◌≡◌, ℕ, Bool, true, false, List, [], ◌++◌, Option, Some, None, refl, sym, ap, subst, ◌∙◌, inl, inr, append_assoc}
-use Rattle.std.proofs.lemmas.List.{append-nil}
-use Rattle.mum_base.specs.declared.number.Cause.{Cause}
-use Rattle.mum_base.specs.declared.number.SessionId.{SessionId}
-use Rattle.mum_io.specs.Link.{Consumes, Keeps, LinkFacts}
-use Rattle.mum_outbox.specs.Facts.{PassFacts, QueueFacts}
-use Rattle.mum_outbox.specs.declared.parcel.PostParcel.{PostParcel}
-use Rattle.mum_outbox.specs.declared.parcel.VoiceParcel.{VoiceParcel}
-use Rattle.mum_session.specs.Machine.{Machine, session_of}
-use Rattle.mum_port.specs.Did.{action_of, bytes_of, echo_of, post_bytes, queued, voice_bytes}
-use Rattle.mum_port.specs.Facts.{MayRead, PortFacts}
-use Rattle.mum_port.specs.Stage.{is_closed}
-use Rattle.mum_port.specs.Steps.{PortChain, Settles}
-use Rattle.mum_port.specs.Turn.{ReadsInTurn, WritesInTurn}
-use Rattle.mum_port.specs.declared.item.DeskItem.{DeskItem}
-use Rattle.mum_port.specs.declared.port.Step.{Step}
-use Rattle.mum_port.proofs.Course.{closed_rests, Way, at_close, bytes_written, did_of, frame, goes_on, handle_part, lost, machine_read, out_read, port_put, post, read_part, remains, session_handle, take_part, took, unsent, voice, way, write_part}
-use Rattle.mum_port.proofs.Links.{Appends-keeps, Consumes-keeps, Keeps-then_appends}
-use Rattle.mum_port.proofs.ReadPart.{Keeps-same, closes}
+use Rattle.mum_port.proofs.Common.{◌≡◌, ℕ, Bool, true, false, List, [], ◌++◌, Option, Some, None, refl, sym, ap, subst, ◌∙◌, inl, inr, append_assoc, append-nil, Cause, SessionId, Consumes, Keeps, LinkFacts, PassFacts, QueueFacts, PostFacts, VoiceFacts, Machine, session_of, action_of, bytes_of, echo_of, post_bytes, queued, voice_bytes, MayRead, PortFacts, is_closed, PortChain, Settles, ReadsInTurn, WritesInTurn, DeskItem, Step}
+use Rattle.mum_port.proofs.{Course.closed_rests, Course.Way, Course.at_close, Course.bytes_written, Course.did_of, Course.frame, Course.goes_on, Course.handle_part, Course.lost, Course.machine_read, Course.out_read, Course.port_put, Course.post, Course.read_part, Course.remains, Course.session_handle, Course.take_part, Course.took, Course.unsent, Course.voice, Course.way, Course.write_part, Links.Appends-keeps, Links.Consumes-keeps, Links.Keeps-then_appends, ReadPart.Keeps-same, ReadPart.closes}
 
 -- what stays twice stays
 pub Keeps-trans : (a b c : Option (List ℕ)) → Keeps a b → Keeps b c → Keeps a c
@@ -41,7 +24,7 @@ write_balance old echo mid post voice wrote new echoed written =
     ∙ (sym (append_assoc mid post voice)
     ∙ (written ∙ ap (λ (l : List ℕ). wrote ++ l) (sym (append-nil new)))))
 
--- and where an echo may have been, and nothing was taken behind it
+-- and where an echo may have been, and nothing was taken after it
 echo_balance : (old echo mid post voice wrote new dropped : List ℕ) → old ++ echo ≡ mid ++ dropped → post ≡ [] → voice ≡ [] → wrote ≡ [] → new ≡ mid
     → old ++ (echo ++ (post ++ voice)) ≡ wrote ++ (new ++ dropped)
 echo_balance old echo mid post voice wrote new dropped echoed no_post no_voice no_write same =
@@ -163,8 +146,8 @@ module _ {L V : Type 0} {facts : L → LinkFacts} {routed : V → ℕ → Sessio
       sent (inl (cause, reads)) = all_sent-on (ap closes reads.not_due)
       sent (inr (inl (cause, reads_on, handles))) =
           echo_balance _ _ c.after_handle.out _ _ _ c.after_write.out (handle_part c).dropped (echo_handle)
-          (ap (λ (p : Option PostParcel). post_bytes (session_of old.machine.stage) p) handles.resting.no_post)
-          (ap (λ (v : Option VoiceParcel). voice_bytes (session_of old.machine.stage) v) handles.resting.no_voice)
+          (ap (λ (p : Option PostFacts). post_bytes (session_of old.machine.stage) p) handles.resting.no_post)
+          (ap (λ (v : Option VoiceFacts). voice_bytes (session_of old.machine.stage) v) handles.resting.no_voice)
           handles.resting.no_write.1 (ap (λ (p : PortFacts L). p.out) handles.resting.same)
       sent (inr (inr (inl (cause, reads_on, handles_on, writes)))) = all_sent-on handles_on
       sent (inr (inr (inr goes))) = all_sent-on goes.handles_on

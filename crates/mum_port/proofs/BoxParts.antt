@@ -1,28 +1,6 @@
 -- What the takes from the boxes leave, by the parcels that were taken.
-use Rattle.std.proofs.Common.{◌≡◌, ◌≢◌, ℕ, Bool, true, false, ◌&&◌, ◌||◌, not, List, [], ◌∷◌, ◌++◌, length, Option, Some, None, refl, sym, ap, subst, ◌∙◌, ◌⊎◌, inl, inr, arith, true≢false, ◌==◌}
-use Rattle.std.specs.Prelude.{slice_get, MatchOption, if◌then◌else◌}
-use Rattle.std.proofs.lemmas.List.{append-nil}
-use Rattle.std.proofs.lemmas.Bool.{eq-eqb, ne_eqb}
-use Rattle.mum_base.specs.declared.number.SessionId.{SessionId}
-use Rattle.mum_frame.specs.declared.kind.TheConstants.{UDP_TUNNEL}
-use Rattle.mum_frame.specs.Frame.{spelling_of}
-use Rattle.mum_outbox.specs.Calls.{Takes}
-use Rattle.mum_outbox.specs.Facts.{QueueFacts}
-use Rattle.mum_outbox.specs.declared.parcel.PostParcel.{PostParcel}
-use Rattle.mum_base.specs.declared.number.TheConstants.{POST_CAPACITY, VOICE_CAPACITY}
-use Rattle.mum_outbox.specs.declared.parcel.VoiceParcel.{VoiceParcel}
-use Rattle.mum_session.specs.Machine.{session_of}
-use Rattle.mum_port.specs.Did.{is_for, is_last, post_bytes, stray_posts, stray_voices, voice_bytes}
-use Rattle.mum_port.specs.Facts.{PortFacts, taking_session}
-use Rattle.mum_port.specs.Stage.{is_live}
-use Rattle.mum_port.specs.Steps.{CollectsPost, DrainsVoice}
-use Rattle.mum_port.specs.Taking.{Collects, Drains, HearsParcel, PostsParcel, PassesCollect, PassesDrain, foreign_count, has_taken, stage_after_post}
-use Rattle.mum_port.specs.Turn.{FindsNothing, TakesAtMostOne}
-use Rattle.mum_port.specs.declared.outbound.Taking.{Taking}
-use Rattle.mum_port.specs.declared.outbound.Taking.TheVariants.{NotDue, Nothing, Own, Foreign}
-use Rattle.mum_port.specs.declared.passes.Passes.{Passes}
-use Rattle.mum_port.specs.declared.stage.Stage.{Stage}
-use Rattle.mum_port.specs.declared.stage.Stage.TheVariants.{Live}
+use Rattle.mum_port.proofs.Common.{◌≡◌, ◌≢◌, ℕ, Bool, true, false, ◌&&◌, ◌||◌, not, List, [], ◌∷◌, ◌++◌, length, Option, Some, None, refl, sym, ap, subst, ◌∙◌, ◌⊎◌, inl, inr, arith, true≢false, ◌==◌, slice_get, MatchOption, if◌then◌else◌, append-nil, eq-eqb, ne_eqb, SessionId, UDP_TUNNEL, spelling_of, Takes, QueueFacts, POST_CAPACITY, VOICE_CAPACITY, PostFacts, VoiceFacts, session_of, is_for, is_last, post_bytes, stray_posts, stray_voices, voice_bytes, PortFacts, taking_session, is_live, CollectsPost, DrainsVoice, Collects, Drains, HearsParcel, PostsParcel, PassesCollect, PassesDrain, foreign_count, has_taken, stage_after_post, FindsNothing, TakesAtMostOne, Taking, Nothing, Own, Foreign, PassesFacts, Stage, Live}
+use Rattle.mum_port.specs.declared.outbound.Taking.TheVariants.{NotDue}
 use Rattle.mum_port.proofs.Closing.{live-is}
 
 -- ---- who may look
@@ -59,14 +37,14 @@ foreign-is session to foreign = ne_eqb to.0 session.0 (λ (same : to.0 ≡ sessi
 -- ---- the post box
 
 -- what a take came to, by what the box gave
-pub record PostCounts (session : SessionId) (post : Option PostParcel) (took : Taking) (out : List ℕ) (stage after : Stage) : Type 0 where
+pub record PostCounts (session : SessionId) (post : Option PostFacts) (took : Taking) (out : List ℕ) (stage after : Stage) : Type 0 where
   pub bytes : out ≡ post_bytes (Some session) post
   pub stage_is : after ≡ stage_after_post (is_last (Some session) post) stage
   pub count : foreign_count took ≡ stray_posts (Some session) post
   pub idle : has_taken took ≡ false → post ≡ None
   pub worked : has_taken took ≡ true → post ≢ None
 
-parcel-counts : (session : SessionId) (parcel : PostParcel) (took : Taking) (out : List ℕ) (stage after : Stage)
+parcel-counts : (session : SessionId) (parcel : PostFacts) (took : Taking) (out : List ℕ) (stage after : Stage)
     → PostsParcel parcel session took out stage after → PostCounts session (Some parcel) took out stage after
 parcel-counts session parcel NotDue out stage after posts = absurd posts
 parcel-counts session parcel Nothing out stage after posts = absurd posts
@@ -87,7 +65,7 @@ parcel-counts session parcel Foreign out stage after posts =
       worked = λ is none. absurd (cc none);
     }
 
-taken-counts : (session : SessionId) (post : Option PostParcel) (took : Taking) (out : List ℕ) (stage after : Stage)
+taken-counts : (session : SessionId) (post : Option PostFacts) (took : Taking) (out : List ℕ) (stage after : Stage)
     → MatchOption post ((took ≡ Nothing) × (out ≡ []) × (after ≡ stage)) (λ one. PostsParcel one session took out stage after) → PostCounts session post took out stage after
 taken-counts session (Some parcel) took out stage after posts = parcel-counts session parcel took out stage after posts
 taken-counts session None took out stage after posts = record {
@@ -109,7 +87,7 @@ untaken-counts session took out stage after not_due none same = record {
 }
 
 -- what becomes of the passes
-abbrev pub PassesAfterPost : List QueueFacts → Option Passes → Option PostParcel → Option Passes → Type 0
+abbrev pub PassesAfterPost : List QueueFacts → Option PassesFacts → Option PostFacts → Option PassesFacts → Type 0
 PassesAfterPost posts None post None = post ≡ None
 PassesAfterPost posts None post (Some after) = ⊥
 PassesAfterPost posts (Some passes) post None = ⊥
@@ -117,13 +95,13 @@ PassesAfterPost posts (Some passes) post (Some after) =
     (after.slot ≡ passes.slot) × (after.voice ≡ passes.voice) × TakesAtMostOne POST_CAPACITY passes.post post after.post
     × (post ≡ None → FindsNothing POST_CAPACITY posts passes.slot.0 passes.post after.post)
 
-abbrev pub post_in_passes : (posts : List QueueFacts) (session : SessionId) (passes : Passes) (stage : Stage) (took : Taking) (passes_after : Passes) (out : List ℕ) (after : Stage)
-    → PassesCollect posts session passes stage took passes_after out after → Option PostParcel
+abbrev pub post_in_passes : (posts : List QueueFacts) (session : SessionId) (passes : PassesFacts) (stage : Stage) (took : Taking) (passes_after : PassesFacts) (out : List ℕ) (after : Stage)
+    → PassesCollect posts session passes stage took passes_after out after → Option PostFacts
 post_in_passes posts session passes stage took passes_after out after (inl none) = None
 post_in_passes posts session passes stage took passes_after out after (inr takes) = takes.parcel
 
-abbrev pub post_in : (posts : List QueueFacts) (session : SessionId) (passes : Option Passes) (stage : Stage) (took : Taking) (passes_after : Option Passes) (out : List ℕ) (after : Stage)
-    → Collects posts session passes stage took passes_after out after → Option PostParcel
+abbrev pub post_in : (posts : List QueueFacts) (session : SessionId) (passes : Option PassesFacts) (stage : Stage) (took : Taking) (passes_after : Option PassesFacts) (out : List ℕ) (after : Stage)
+    → Collects posts session passes stage took passes_after out after → Option PostFacts
 post_in posts session None stage took None out after collects = None
 post_in posts session None stage took (Some passes_after) out after collects = None
 post_in posts session (Some passes) stage took None out after collects = None
@@ -132,31 +110,31 @@ post_in posts session (Some passes) stage took (Some passes_after) out after col
 no_box_there : {P : Type 0} (found : Option QueueFacts) (queue : QueueFacts) → found ≡ None → found ≡ Some queue → P
 no_box_there found queue none some = absurd (cc (sym none ∙ some))
 
-post_passes : (posts : List QueueFacts) (session : SessionId) (passes : Passes) (stage : Stage) (took : Taking) (passes_after : Passes) (out : List ℕ) (after : Stage)
+post_passes : (posts : List QueueFacts) (session : SessionId) (passes : PassesFacts) (stage : Stage) (took : Taking) (passes_after : PassesFacts) (out : List ℕ) (after : Stage)
     (collects : PassesCollect posts session passes stage took passes_after out after)
     → PostCounts session (post_in_passes posts session passes stage took passes_after out after collects) took out stage after
     × PassesAfterPost posts (Some passes) (post_in_passes posts session passes stage took passes_after out after collects) (Some passes_after)
 post_passes posts session passes stage took passes_after out after (inl (none, same)) = (
   untaken-counts session took out stage after none.not_due none.out_same same,
   (
-    ap (λ (s : Passes). s.slot) none.passes_same,
-    ap (λ (s : Passes). s.voice) none.passes_same,
-    inl (refl, ap (λ (s : Passes). s.post) none.passes_same),
+    ap (λ (s : PassesFacts). s.slot) none.passes_same,
+    ap (λ (s : PassesFacts). s.voice) none.passes_same,
+    inl (refl, ap (λ (s : PassesFacts). s.post) none.passes_same),
     λ unused queue found. no_box_there (slice_get posts passes.slot.0) queue none.no_box found,
   ),
 )
 post_passes posts session passes stage took passes_after out after (inr takes) =
-    let given : Takes POST_CAPACITY passes.post takes.parcel passes_after.post = subst (λ (s : Passes). Takes POST_CAPACITY passes.post takes.parcel s.post) (sym takes.after) takes.takes in (
+    let given : Takes POST_CAPACITY passes.post takes.parcel passes_after.post = subst (λ (s : PassesFacts). Takes POST_CAPACITY passes.post takes.parcel s.post) (sym takes.after) takes.takes in (
       taken-counts session takes.parcel took out stage after takes.posted,
       (
-        ap (λ (s : Passes). s.slot) takes.after,
-        ap (λ (s : Passes). s.voice) takes.after,
+        ap (λ (s : PassesFacts). s.slot) takes.after,
+        ap (λ (s : PassesFacts). s.voice) takes.after,
         inr given,
-        λ none queue found. subst (λ (p : Option PostParcel). Takes POST_CAPACITY passes.post p passes_after.post) none given,
+        λ none queue found. subst (λ (p : Option PostFacts). Takes POST_CAPACITY passes.post p passes_after.post) none given,
       ),
     )
 
-post_option : (posts : List QueueFacts) (session : SessionId) (passes : Option Passes) (stage : Stage) (took : Taking) (passes_after : Option Passes) (out : List ℕ) (after : Stage)
+post_option : (posts : List QueueFacts) (session : SessionId) (passes : Option PassesFacts) (stage : Stage) (took : Taking) (passes_after : Option PassesFacts) (out : List ℕ) (after : Stage)
     (collects : Collects posts session passes stage took passes_after out after)
     → PostCounts session (post_in posts session passes stage took passes_after out after collects) took out stage after
     × PassesAfterPost posts passes (post_in posts session passes stage took passes_after out after collects) passes_after
@@ -166,17 +144,17 @@ post_option posts session (Some passes) stage took None out after collects = abs
 post_option posts session (Some passes) stage took (Some passes_after) out after collects = post_passes posts session passes stage took passes_after out after collects
 
 module _ {L : Type 0} (posts : List QueueFacts) where
-  abbrev pub post_of : (old : PortFacts L) (took : Taking) (new : PortFacts L) → CollectsPost posts old took new → Option PostParcel
+  abbrev pub post_of : (old : PortFacts L) (took : Taking) (new : PortFacts L) → CollectsPost posts old took new → Option PostFacts
   post_of old took new (inl nothing) = None
   post_of old took new (inr one) = post_in posts one.session old.passes old.stage took new.passes new.out new.stage one.taken
 
   -- the box was not looked at, or the port might look at it
-  abbrev pub LookedForPost : PortFacts L → Option PostParcel → PortFacts L → Type 0
+  abbrev pub LookedForPost : PortFacts L → Option PostFacts → PortFacts L → Type 0
   LookedForPost old post new =
       ((post ≡ None) × (new ≡ old) × (taking_session old ≡ None))
       ⊎ ((session : SessionId) × (taking_session old ≡ Some session) × PassesAfterPost posts old.passes post new.passes)
 
-  pub record PostLeaves (old : PortFacts L) (took : Taking) (new : PortFacts L) (post : Option PostParcel) : Type 0 where
+  pub record PostLeaves (old : PortFacts L) (took : Taking) (new : PortFacts L) (post : Option PostFacts) : Type 0 where
     pub out : new.out ≡ old.out ++ post_bytes (session_of old.machine.stage) post
     pub stage : new.stage ≡ stage_after_post (is_last (session_of old.machine.stage) post) old.stage
     pub count : foreign_count took ≡ stray_posts (session_of old.machine.stage) post
@@ -223,31 +201,31 @@ module _ {L : Type 0} (posts : List QueueFacts) where
 
 -- ---- the voice box
 
-pub record VoiceCounts (session : SessionId) (voice : Option VoiceParcel) (took : Taking) (out : List ℕ) : Type 0 where
+pub record VoiceCounts (session : SessionId) (voice : Option VoiceFacts) (took : Taking) (out : List ℕ) : Type 0 where
   pub bytes : out ≡ voice_bytes (Some session) voice
   pub count : foreign_count took ≡ stray_voices (Some session) voice
   pub idle : has_taken took ≡ false → voice ≡ None
   pub worked : has_taken took ≡ true → voice ≢ None
 
-packet-counts : (session : SessionId) (parcel : VoiceParcel) (took : Taking) (out : List ℕ) → HearsParcel parcel session took out → VoiceCounts session (Some parcel) took out
+packet-counts : (session : SessionId) (parcel : VoiceFacts) (took : Taking) (out : List ℕ) → HearsParcel parcel session took out → VoiceCounts session (Some parcel) took out
 packet-counts session parcel NotDue out hears = absurd hears
 packet-counts session parcel Nothing out hears = absurd hears
 packet-counts session parcel Own out hears =
     let own = own-is session parcel.to hears.0 in record {
-      bytes = hears.1 ∙ ap (λ (b : Bool). if b then spelling_of UDP_TUNNEL parcel.bytes.items else []) (sym own);
+      bytes = hears.1 ∙ ap (λ (b : Bool). if b then spelling_of UDP_TUNNEL parcel.bytes else []) (sym own);
       count = ap (λ (b : Bool). if b then 0 else 1) (sym own);
       idle = λ is. absurd (true≢false is);
       worked = λ is none. absurd (cc none);
     }
 packet-counts session parcel Foreign out hears =
     let other = foreign-is session parcel.to hears.0 in record {
-      bytes = hears.1 ∙ ap (λ (b : Bool). if b then spelling_of UDP_TUNNEL parcel.bytes.items else []) (sym other);
+      bytes = hears.1 ∙ ap (λ (b : Bool). if b then spelling_of UDP_TUNNEL parcel.bytes else []) (sym other);
       count = ap (λ (b : Bool). if b then 0 else 1) (sym other);
       idle = λ is. absurd (true≢false is);
       worked = λ is none. absurd (cc none);
     }
 
-heard-counts : (session : SessionId) (voice : Option VoiceParcel) (took : Taking) (out : List ℕ) → MatchOption voice ((took ≡ Nothing) × (out ≡ [])) (λ one. HearsParcel one session took out) → VoiceCounts session voice took out
+heard-counts : (session : SessionId) (voice : Option VoiceFacts) (took : Taking) (out : List ℕ) → MatchOption voice ((took ≡ Nothing) × (out ≡ [])) (λ one. HearsParcel one session took out) → VoiceCounts session voice took out
 heard-counts session (Some parcel) took out hears = packet-counts session parcel took out hears
 heard-counts session None took out hears = record {
   bytes = hears.1;
@@ -264,7 +242,7 @@ unheard-counts session took out not_due none = record {
   worked = λ is. absurd (true≢false (sym is ∙ ap has_taken not_due));
 }
 
-abbrev pub PassesAfterVoice : List QueueFacts → Option Passes → Option VoiceParcel → Option Passes → Type 0
+abbrev pub PassesAfterVoice : List QueueFacts → Option PassesFacts → Option VoiceFacts → Option PassesFacts → Type 0
 PassesAfterVoice voices None voice None = voice ≡ None
 PassesAfterVoice voices None voice (Some after) = ⊥
 PassesAfterVoice voices (Some passes) voice None = ⊥
@@ -272,43 +250,43 @@ PassesAfterVoice voices (Some passes) voice (Some after) =
     (after.slot ≡ passes.slot) × (after.post ≡ passes.post) × TakesAtMostOne VOICE_CAPACITY passes.voice voice after.voice
     × (voice ≡ None → FindsNothing VOICE_CAPACITY voices passes.slot.0 passes.voice after.voice)
 
-abbrev pub voice_in_passes : (voices : List QueueFacts) (session : SessionId) (passes : Passes) (took : Taking) (passes_after : Passes) (out : List ℕ)
-    → PassesDrain voices session passes took passes_after out → Option VoiceParcel
+abbrev pub voice_in_passes : (voices : List QueueFacts) (session : SessionId) (passes : PassesFacts) (took : Taking) (passes_after : PassesFacts) (out : List ℕ)
+    → PassesDrain voices session passes took passes_after out → Option VoiceFacts
 voice_in_passes voices session passes took passes_after out (inl none) = None
 voice_in_passes voices session passes took passes_after out (inr takes) = takes.parcel
 
-abbrev pub voice_in : (voices : List QueueFacts) (session : SessionId) (passes : Option Passes) (took : Taking) (passes_after : Option Passes) (out : List ℕ)
-    → Drains voices session passes took passes_after out → Option VoiceParcel
+abbrev pub voice_in : (voices : List QueueFacts) (session : SessionId) (passes : Option PassesFacts) (took : Taking) (passes_after : Option PassesFacts) (out : List ℕ)
+    → Drains voices session passes took passes_after out → Option VoiceFacts
 voice_in voices session None took None out drains = None
 voice_in voices session None took (Some passes_after) out drains = None
 voice_in voices session (Some passes) took None out drains = None
 voice_in voices session (Some passes) took (Some passes_after) out drains = voice_in_passes voices session passes took passes_after out drains
 
-voice_passes : (voices : List QueueFacts) (session : SessionId) (passes : Passes) (took : Taking) (passes_after : Passes) (out : List ℕ)
+voice_passes : (voices : List QueueFacts) (session : SessionId) (passes : PassesFacts) (took : Taking) (passes_after : PassesFacts) (out : List ℕ)
     (drains : PassesDrain voices session passes took passes_after out)
     → VoiceCounts session (voice_in_passes voices session passes took passes_after out drains) took out
     × PassesAfterVoice voices (Some passes) (voice_in_passes voices session passes took passes_after out drains) (Some passes_after)
 voice_passes voices session passes took passes_after out (inl none) = (
   unheard-counts session took out none.not_due none.out_same,
   (
-    ap (λ (s : Passes). s.slot) none.passes_same,
-    ap (λ (s : Passes). s.post) none.passes_same,
-    inl (refl, ap (λ (s : Passes). s.voice) none.passes_same),
+    ap (λ (s : PassesFacts). s.slot) none.passes_same,
+    ap (λ (s : PassesFacts). s.post) none.passes_same,
+    inl (refl, ap (λ (s : PassesFacts). s.voice) none.passes_same),
     λ unused queue found. no_box_there (slice_get voices passes.slot.0) queue none.no_box found,
   ),
 )
 voice_passes voices session passes took passes_after out (inr takes) =
-    let given : Takes VOICE_CAPACITY passes.voice takes.parcel passes_after.voice = subst (λ (s : Passes). Takes VOICE_CAPACITY passes.voice takes.parcel s.voice) (sym takes.after) takes.takes in (
+    let given : Takes VOICE_CAPACITY passes.voice takes.parcel passes_after.voice = subst (λ (s : PassesFacts). Takes VOICE_CAPACITY passes.voice takes.parcel s.voice) (sym takes.after) takes.takes in (
       heard-counts session takes.parcel took out takes.heard,
       (
-        ap (λ (s : Passes). s.slot) takes.after,
-        ap (λ (s : Passes). s.post) takes.after,
+        ap (λ (s : PassesFacts). s.slot) takes.after,
+        ap (λ (s : PassesFacts). s.post) takes.after,
         inr given,
-        λ none queue found. subst (λ (p : Option VoiceParcel). Takes VOICE_CAPACITY passes.voice p passes_after.voice) none given,
+        λ none queue found. subst (λ (p : Option VoiceFacts). Takes VOICE_CAPACITY passes.voice p passes_after.voice) none given,
       ),
     )
 
-voice_option : (voices : List QueueFacts) (session : SessionId) (passes : Option Passes) (took : Taking) (passes_after : Option Passes) (out : List ℕ)
+voice_option : (voices : List QueueFacts) (session : SessionId) (passes : Option PassesFacts) (took : Taking) (passes_after : Option PassesFacts) (out : List ℕ)
     (drains : Drains voices session passes took passes_after out)
     → VoiceCounts session (voice_in voices session passes took passes_after out drains) took out
     × PassesAfterVoice voices passes (voice_in voices session passes took passes_after out drains) passes_after
@@ -318,16 +296,16 @@ voice_option voices session (Some passes) took None out drains = absurd drains
 voice_option voices session (Some passes) took (Some passes_after) out drains = voice_passes voices session passes took passes_after out drains
 
 module _ {L : Type 0} (voices : List QueueFacts) where
-  abbrev pub voice_of : (old : PortFacts L) (took : Taking) (new : PortFacts L) → DrainsVoice voices old took new → Option VoiceParcel
+  abbrev pub voice_of : (old : PortFacts L) (took : Taking) (new : PortFacts L) → DrainsVoice voices old took new → Option VoiceFacts
   voice_of old took new (inl nothing) = None
   voice_of old took new (inr one) = voice_in voices one.session old.passes took new.passes new.out one.taken
 
-  abbrev pub LookedForVoice : PortFacts L → Option VoiceParcel → PortFacts L → Type 0
+  abbrev pub LookedForVoice : PortFacts L → Option VoiceFacts → PortFacts L → Type 0
   LookedForVoice old voice new =
       ((voice ≡ None) × (new ≡ old) × (taking_session old ≡ None))
       ⊎ ((session : SessionId) × (taking_session old ≡ Some session) × PassesAfterVoice voices old.passes voice new.passes)
 
-  pub record VoiceLeaves (old : PortFacts L) (took : Taking) (new : PortFacts L) (voice : Option VoiceParcel) : Type 0 where
+  pub record VoiceLeaves (old : PortFacts L) (took : Taking) (new : PortFacts L) (voice : Option VoiceFacts) : Type 0 where
     pub out : new.out ≡ old.out ++ voice_bytes (session_of old.machine.stage) voice
     pub stage : new.stage ≡ old.stage
     pub count : foreign_count took ≡ stray_voices (session_of old.machine.stage) voice

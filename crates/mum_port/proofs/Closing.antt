@@ -1,16 +1,5 @@
 -- A port that closed does nothing more in its step but shut its link.
-use Rattle.std.proofs.Common.{◌≡◌, Bool, true, false, ◌&&◌, IsTrue, Option, Some, None, refl, sym, ap, ◌∙◌, inl, inr, true≢false, ⊎_elim}
-use Rattle.mum_base.specs.declared.number.Cause.{Cause}
-use Rattle.mum_io.specs.Link.{LinkFacts}
-use Rattle.mum_outbox.specs.Facts.{PassFacts}
-use Rattle.mum_port.specs.Facts.{PortFacts, stage_after_put}
-use Rattle.mum_port.specs.Stage.{after_word, cause_of, closed_for, is_live, stage_by}
-use Rattle.mum_port.specs.Steps.{Puts, Settles, settled}
-use Rattle.mum_port.specs.declared.item.DeskItem.{DeskItem}
-use Rattle.mum_port.specs.declared.stage.Stage.{Stage}
-use Rattle.mum_port.specs.declared.stage.Stage.TheVariants.{Live, Ending, Closed}
-use Rattle.mum_port.specs.declared.stage.Went.{Went}
-use Rattle.mum_port.specs.declared.stage.Went.TheVariants.{NotDue, Stalled, Worked, Closes}
+use Rattle.mum_port.proofs.Common.{◌≡◌, Bool, true, false, ◌&&◌, IsTrue, Option, Some, None, refl, sym, ap, ◌∙◌, inl, inr, true≢false, ⊎_elim, Cause, LinkFacts, PassFacts, PortFacts, stage_after_put, after_word, cause_of, closed_for, is_live, stage_by, Puts, Settles, settled, DeskItem, Stage, Live, Ending, Closed, Went, NotDue, Stalled, Worked, Closes}
 
 pub live-is : (stage : Stage) → is_live stage ≡ true → stage ≡ Live
 live-is Live live = refl

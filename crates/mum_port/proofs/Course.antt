@@ -1,33 +1,6 @@
 -- What a step of a port did, read off the chain of its parts, and the ways in which it may close.
-use Rattle.std.proofs.Common.{◌≡◌, ℕ, Bool, true, false, IsTrue, List, [], ◌++◌, Option, Some, None, refl, sym, ap, subst, ◌∙◌, ◌⊎◌, inl, inr, true≢false, ⊎_elim}
-use Rattle.mum_base.specs.declared.number.Cause.{Cause}
-use Rattle.mum_base.specs.declared.number.Cause.TheVariants.{End, LinkFault, FrameTooLong, Rejected, Kicked, Lagged, Memory}
-use Rattle.mum_base.specs.declared.number.SessionId.{SessionId}
-use Rattle.mum_frame.specs.declared.frame.Frame.{Frame}
-use Rattle.mum_io.specs.Link.{LinkFacts}
-use Rattle.mum_outbox.specs.Facts.{PassFacts, QueueFacts}
-use Rattle.mum_outbox.specs.declared.parcel.PostParcel.{PostParcel}
-use Rattle.mum_outbox.specs.declared.parcel.VoiceParcel.{VoiceParcel}
-use Rattle.mum_session.specs.Machine.{Machine, session_of}
-use Rattle.mum_port.specs.Did.{PortDid, is_last, machine_after, port_after_put, stage_kept, stage_once_put}
-use Rattle.mum_port.specs.Facts.{MayRead, PortFacts, may_handle, may_write}
-use Rattle.mum_port.specs.Stage.{closed_for, is_closed, stage_by}
-use Rattle.mum_port.specs.Steps.{PortChain}
-use Rattle.mum_port.specs.Taking.{stage_after_post}
-use Rattle.mum_port.specs.declared.item.DeskItem.{DeskItem}
-use Rattle.mum_port.specs.declared.port.Step.{Step}
-use Rattle.mum_port.specs.declared.stage.Stage.{Stage}
-use Rattle.mum_port.specs.declared.stage.Stage.TheVariants.{Live, Ending, Closed}
-use Rattle.mum_port.specs.declared.stage.Went.{Went}
-use Rattle.mum_port.specs.declared.stage.Went.TheVariants.{NotDue, Stalled, Worked, Closes}
-use Rattle.mum_port.proofs.BoxParts.{taking-is}
-use Rattle.mum_port.proofs.Closing.{Puts-live, settles-closed}
-use Rattle.mum_port.proofs.HandlePart.{HandleLeaves, HandleShows, handle-leaves, handled_of}
-use Rattle.mum_port.proofs.Machines.{stage-after_frame}
-use Rattle.mum_port.proofs.Parcels.{ParcelsLeave, parcels-leave, post_taken, voice_taken}
-use Rattle.mum_port.proofs.ReadPart.{ReadLeaves, ReadShows, closes, lost_of, put-port, put_of, read-leaves, read-shows, stage_by-open, took_of}
-use Rattle.mum_port.proofs.Resting.{handle-rests, read-rests, live-open, may-live, may_write-open, stage_after_put-closed, takes-rest, write-rests}
-use Rattle.mum_port.proofs.WritePart.{WriteLeaves, WriteShows, write-leaves, wrote_of}
+use Rattle.mum_port.proofs.Common.{◌≡◌, ℕ, Bool, true, false, IsTrue, List, [], ◌++◌, Option, Some, None, refl, sym, ap, subst, ◌∙◌, ◌⊎◌, inl, inr, true≢false, ⊎_elim, Cause, End, LinkFault, FrameTooLong, Rejected, Kicked, Lagged, Memory, SessionId, Frame, LinkFacts, PassFacts, QueueFacts, PostFacts, VoiceFacts, Machine, session_of, PortDid, is_last, machine_after, port_after_put, stage_kept, stage_once_put, MayRead, PortFacts, may_handle, may_write, closed_for, is_closed, stage_by, PortChain, stage_after_post, DeskItem, Step, Stage, Live, Ending, Closed, Went, NotDue, Stalled, Worked, Closes}
+use Rattle.mum_port.proofs.{BoxParts.taking-is, Closing.Puts-live, Closing.settles-closed, HandlePart.HandleLeaves, HandlePart.HandleShows, HandlePart.handle-leaves, HandlePart.handled_of, Machines.stage-after_frame, Parcels.ParcelsLeave, Parcels.parcels-leave, Parcels.post_taken, Parcels.voice_taken, ReadPart.ReadLeaves, ReadPart.ReadShows, ReadPart.closes, ReadPart.lost_of, ReadPart.put-port, ReadPart.put_of, ReadPart.read-leaves, ReadPart.read-shows, ReadPart.stage_by-open, ReadPart.took_of, Resting.handle-rests, Resting.read-rests, Resting.live-open, Resting.may-live, Resting.may_write-open, Resting.stage_after_put-closed, Resting.takes-rest, Resting.write-rests, WritePart.WriteLeaves, WritePart.WriteShows, WritePart.write-leaves, WritePart.wrote_of}
 
 pub closes-is : (went : Went) (cause : Cause) → closes went ≡ Some cause → went ≡ Closes cause
 closes-is NotDue cause is = absurd (cc is)
@@ -98,10 +71,10 @@ module _ {L V : Type 0} {facts : L → LinkFacts} {routed : V → ℕ → Sessio
   abbrev pub frame : Option Frame
   frame = handled_of routed c.after_read router c.handled c.after_handle router_after c.handles
 
-  abbrev pub post : Option PostParcel
+  abbrev pub post : Option PostFacts
   post = post_taken posts voices c.after_handle c.posted c.heard c.after_take c.takes
 
-  abbrev pub voice : Option VoiceParcel
+  abbrev pub voice : Option VoiceFacts
   voice = voice_taken posts voices c.after_handle c.posted c.heard c.after_take c.takes
 
   abbrev pub bytes_written : List ℕ
@@ -287,7 +260,7 @@ module _ {L V : Type 0} {facts : L → LinkFacts} {routed : V → ℕ → Sessio
   as_open reads_on handles_on =
       ap is_closed (take_part).stage ∙ ⊎_elim
       (λ unlooked.
-      ap (λ (p : Option PostParcel). is_closed (stage_after_post (is_last (session_of c.after_handle.machine.stage) p) c.after_handle.stage)) unlooked.0
+      ap (λ (p : Option PostFacts). is_closed (stage_after_post (is_last (session_of c.after_handle.machine.stage) p) c.after_handle.stage)) unlooked.0
       ∙ (ap is_closed (stage_handle reads_on handles_on) ∙ put-closed))
       (λ looked.
       let live = (taking-is c.after_handle looked.0 looked.1).0 in

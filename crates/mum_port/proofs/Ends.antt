@@ -1,31 +1,7 @@
 -- For what a step closes its port, and what shows it.
-use Rattle.std.proofs.Common.{◌≡◌, ℕ, ◌<◌, Bool, true, false, IsTrue, List, [], ◌∷◌, ◌++◌, length, Option, Some, None, refl, sym, ap, subst, ◌∙◌, ◌⊎◌, inl, inr, true≢false, arith, ◌≤◌, if◌then◌else◌}
-use Rattle.std.proofs.lemmas.Bool.{ne_eqb}
-use Rattle.std.proofs.lemmas.List.{append-nil}
-use Rattle.mum_base.specs.declared.number.Cause.{Cause}
-use Rattle.mum_base.specs.declared.number.Cause.TheVariants.{End, LinkFault, FrameTooLong, Rejected, Kicked, Lagged, Memory}
-use Rattle.mum_base.specs.declared.number.SessionId.{SessionId}
-use Rattle.mum_frame.specs.declared.frame.Frame.{Frame}
-use Rattle.mum_frame.specs.Frame.{HasFrame, HasNoFrame, TooLong}
-use Rattle.mum_frame.proofs.Headers.{HasNoFrame-above_limit}
-use Rattle.mum_io.specs.Counts.{Counts, NoneFalls, Rose}
-use Rattle.mum_io.specs.Link.{IsAtEnd, LinkFacts}
-use Rattle.mum_io.proofs.CountLemmas.{NoneFalls-same, NoneFalls-trans, Rose-earlier, Rose-later}
-use Rattle.mum_outbox.specs.Facts.{PassFacts, QueueFacts}
-use Rattle.mum_port.specs.Did.{bytes_of, port_after_put, stage_kept}
-use Rattle.mum_port.specs.Facts.{PortFacts, may_handle}
-use Rattle.mum_port.specs.Stage.{cause_of, closed_for, is_closed, parting_cause}
-use Rattle.mum_port.specs.Steps.{PortChain, Settles, settled}
-use Rattle.mum_port.specs.Turn.{Settled, ShowsCause, UsedMemory}
-use Rattle.mum_port.specs.declared.item.DeskItem.{DeskItem}
-use Rattle.mum_port.specs.declared.port.Step.{Step}
-use Rattle.mum_port.specs.declared.stage.Parting.{Parting}
+use Rattle.mum_port.proofs.Common.{◌≡◌, ℕ, ◌<◌, Bool, true, false, IsTrue, List, [], ◌∷◌, ◌++◌, length, Option, Some, None, refl, sym, ap, subst, ◌∙◌, ◌⊎◌, inl, inr, true≢false, arith, ◌≤◌, if◌then◌else◌, ne_eqb, append-nil, Cause, End, LinkFault, FrameTooLong, Rejected, Kicked, Lagged, Memory, SessionId, Frame, HasFrame, HasNoFrame, TooLong, HasNoFrame-above_limit, Counts, NoneFalls, Rose, IsAtEnd, LinkFacts, NoneFalls-same, NoneFalls-trans, Rose-earlier, Rose-later, PassFacts, QueueFacts, bytes_of, port_after_put, stage_kept, PortFacts, may_handle, cause_of, closed_for, is_closed, parting_cause, PortChain, Settles, settled, Settled, ShowsCause, UsedMemory, DeskItem, Step, Parting, Stage, Live, Ending, Closed}
+use Rattle.mum_port.proofs.{Balance.all_read, Balance.link_put, Balance.link_take, Balance.settle-link, Course.GoesOn, Course.HandleCloses, Course.ReadCloses, Course.Way, Course.WriteCloses, Course.as_open, Course.at_close, Course.did_of, Course.frame, Course.goes_on, Course.handle_part, Course.item, Course.port_put, Course.read_part, Course.remains, Course.stage_end, Course.took, Course.unsent, Course.way, Course.write_part, ReadPart.closes, ReadPart.stage_by-open}
 use Rattle.mum_port.specs.declared.stage.Parting.TheVariants as partings
-use Rattle.mum_port.specs.declared.stage.Stage.{Stage}
-use Rattle.mum_port.specs.declared.stage.Stage.TheVariants.{Live, Ending, Closed}
-use Rattle.mum_port.proofs.Balance.{all_read, link_put, link_take, settle-link}
-use Rattle.mum_port.proofs.Course.{GoesOn, HandleCloses, ReadCloses, Way, WriteCloses, as_open, at_close, did_of, frame, goes_on, handle_part, item, port_put, read_part, remains, stage_end, took, unsent, way, write_part}
-use Rattle.mum_port.proofs.ReadPart.{closes, stage_by-open}
 
 -- ---- facts on stages
 
@@ -89,7 +65,7 @@ module _ {L V : Type 0} {facts : L → LinkFacts} {routed : V → ℕ → Sessio
       ∙ (ap (λ (l : List ℕ). old.framer.kept ++ l) (sym no_bytes)
       ∙ (all_read c ∙ ap (λ (f : Option Frame). bytes_of f ++ remains c) no_frame))
 
-  -- where no frame was handled and memory was there, it is what was kept behind the read
+  -- where no frame was handled and memory was there, it is what was kept after the read
   remains_read : frame c ≡ None → closes c.read ≡ None → c.after_read.framer.kept ≡ remains c
   remains_read no_frame reads_on =
       (handle_part c).bytes
@@ -115,7 +91,7 @@ module _ {L V : Type 0} {facts : L → LinkFacts} {routed : V → ℕ → Sessio
   shown_by_read Lagged reads = absurd reads.shown
   shown_by_read Memory reads = inl reads.shown.1
 
-  -- what it might do behind the read it might do before
+  -- what it might do after the read it might do before
   pub may_before : closes c.read ≡ None → IsTrue (may_handle c.after_read) → IsTrue (may_handle (port_after_put (item c) old))
   may_before reads_on may =
       subst (λ (p : PortFacts L). IsTrue (may_handle p)) (port_put c)

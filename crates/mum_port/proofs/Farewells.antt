@@ -1,29 +1,8 @@
 -- What a port puts on the desk: each command once, in order, and then its farewell.
-use Rattle.std.proofs.Common.{◌≡◌, ℕ, Bool, true, false, IsTrue, List, [], ◌∷◌, ◌++◌, Option, Some, None, refl, sym, ap, subst, ◌∙◌, inl, inr, true≢false, append_assoc, is_none, not}
-use Rattle.std.proofs.lemmas.List.{append-nil}
-use Rattle.std.specs.Prelude.{option_to_list}
-use Rattle.mum_base.specs.declared.number.Cause.{Cause}
-use Rattle.mum_base.specs.declared.number.SessionId.{SessionId}
-use Rattle.mum_base.specs.declared.reply.ReplyEnd.{ReplyEnd}
+use Rattle.mum_port.proofs.Common.{◌≡◌, ℕ, Bool, true, false, IsTrue, List, [], ◌∷◌, ◌++◌, Option, Some, None, refl, sym, ap, subst, ◌∙◌, inl, inr, true≢false, append_assoc, is_none, not, append-nil, option_to_list, Cause, SessionId, ReplyEnd, Frame, LinkFacts, Machine, session_of, PortDid, asked_item, is_last, port_after_put, stage_once_put, waiting_after_put, PortFacts, leave, may_handle, new_port, next_item, next_word, waiting_after, Event, Lives, Steps, items_asked, items_put, lagged, replied, stepped, words_said, is_closed, is_live, stage_after_reply, stage_after_post, Settled, DeskItem, Leave, LastWord, Done, Stage, Live, Ending, Closed}
+use Rattle.mum_port.proofs.{Closing.and-left, Course.stage_once_put-closed, Idle.and-right, Idle.none_of, Living.quiet}
 use Rattle.mum_base.specs.declared.reply.ReplyEnd.TheVariants as ends
-use Rattle.mum_frame.specs.declared.frame.Frame.{Frame}
-use Rattle.mum_io.specs.Link.{LinkFacts}
-use Rattle.mum_session.specs.Machine.{Machine, session_of}
-use Rattle.mum_port.specs.Did.{PortDid, asked_item, is_last, port_after_put, stage_once_put, waiting_after_put}
-use Rattle.mum_port.specs.Facts.{PortFacts, leave, may_handle, new_port, next_item, next_word, waiting_after}
-use Rattle.mum_port.specs.Life.{Event, Lives, Steps, items_asked, items_put, lagged, replied, stepped, words_said}
-use Rattle.mum_port.specs.Stage.{is_closed, is_live, stage_after_reply}
-use Rattle.mum_port.specs.Taking.{stage_after_post}
-use Rattle.mum_port.specs.Turn.{Settled}
-use Rattle.mum_port.specs.declared.item.DeskItem.{DeskItem}
 use Rattle.mum_port.specs.declared.item.DeskItem.TheVariants as items
-use Rattle.mum_port.specs.declared.stage.Farewell.TheVariants.{Leave, LastWord, Done}
-use Rattle.mum_port.specs.declared.stage.Stage.{Stage}
-use Rattle.mum_port.specs.declared.stage.Stage.TheVariants.{Live, Ending, Closed}
-use Rattle.mum_port.proofs.Closing.{and-left}
-use Rattle.mum_port.proofs.Course.{stage_once_put-closed}
-use Rattle.mum_port.proofs.Idle.{and-right, none_of}
-use Rattle.mum_port.proofs.Living.{quiet}
 
 -- the desk has a word of the farewell
 abbrev has_left : Stage → Bool

@@ -1,21 +1,5 @@
 -- What the handling of a frame leaves, by the frame that was handled.
-use Rattle.std.proofs.Common.{◌≡◌, ◌≢◌, ℕ, IsTrue, List, [], ◌++◌, Option, Some, None, refl, sym, ap, subst, ◌∙◌, ◌⊎◌, inl, inr}
-use Rattle.std.specs.Option.{option_and_then}
-use Rattle.std.proofs.lemmas.List.{append-nil}
-use Rattle.mum_base.specs.declared.number.Cause.TheVariants.{FrameTooLong, Memory}
-use Rattle.mum_base.specs.declared.number.SessionId.{SessionId}
-use Rattle.mum_frame.specs.declared.frame.Frame.{Frame}
-use Rattle.mum_frame.specs.Frame.{HasFrame, HasNoFrame, IsFrame, TooLong}
-use Rattle.mum_session.specs.Machine.{Machine, session_of}
-use Rattle.mum_session.specs.declared.action.Action.{Action}
-use Rattle.mum_session.specs.declared.action.Action.TheVariants.{Voice, Echo}
-use Rattle.mum_port.specs.Did.{action_of, asked_item, bytes_of, echo_of, machine_after}
-use Rattle.mum_port.specs.Facts.{PortFacts, item_of, may_handle, waiting_after}
-use Rattle.mum_port.specs.Handling.{Acts, HandlesKept, Routes, Sinks}
-use Rattle.mum_port.specs.Stage.{stage_by}
-use Rattle.mum_port.specs.Steps.{Handles}
-use Rattle.mum_port.specs.declared.stage.Went.{Went}
-use Rattle.mum_port.specs.declared.stage.Went.TheVariants.{NotDue, Stalled, Worked, Closes}
+use Rattle.mum_port.proofs.Common.{◌≡◌, ◌≢◌, ℕ, IsTrue, List, [], ◌++◌, Option, Some, None, refl, sym, ap, subst, ◌∙◌, ◌⊎◌, inl, inr, option_and_then, append-nil, FrameTooLong, Memory, SessionId, Frame, HasFrame, HasNoFrame, IsFrame, TooLong, Machine, session_of, Action, Voice, Echo, action_of, asked_item, bytes_of, echo_of, machine_after, PortFacts, item_of, may_handle, waiting_after, Acts, HandlesKept, Routes, Sinks, stage_by, Handles, Went, NotDue, Stalled, Worked, Closes}
 use Rattle.mum_port.proofs.ReadPart.{closes}
 
 module _ {V : Type 0} (routed : V → ℕ → SessionId → List ℕ → V → Type 0) where
@@ -88,7 +72,7 @@ module _ {V : Type 0} (routed : V → ℕ → SessionId → List ℕ → V → T
   HandleShows kept frame others = ⊥
 
   pub record KeptLeaves (machine : Machine) (kept : List ℕ) (old : Sinks V) (went : Went) (machine_new : Machine) (kept_new : List ℕ) (new : Sinks V) (frame : Option Frame) : Type 0 where
-    -- the bytes behind the frame, and the echo for which there was no memory
+    -- the bytes after the frame, and the echo for which there was no memory
     pub unhandled : List ℕ
     pub dropped : List ℕ
     pub bytes : kept ≡ bytes_of frame ++ unhandled

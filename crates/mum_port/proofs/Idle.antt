@@ -1,39 +1,6 @@
 -- A step that did nothing had to wait for all that it might have used, and one that worked did something.
-use Rattle.std.proofs.Common.{◌≡◌, ◌≢◌, ℕ, Bool, true, false, ◌&&◌, ◌||◌, IsTrue, List, [], ◌∷◌, ◌++◌, Option, Some, None, is_none, is_some, not, refl, sym, ap, subst, ◌∙◌, inl, inr, true≢false}
-use Rattle.std.proofs.lemmas.List.{append-nil}
-use Rattle.std.specs.List.{list_any}
-use Rattle.mum_base.specs.declared.number.Cause.{Cause}
-use Rattle.mum_base.specs.declared.number.Cause.TheVariants.{End, LinkFault, FrameTooLong, Rejected, Kicked, Lagged, Memory}
-use Rattle.mum_base.specs.declared.number.SessionId.{SessionId}
-use Rattle.mum_frame.specs.declared.frame.Frame.{Frame}
-use Rattle.mum_frame.specs.Frame.{HasNoFrame, IsFrame, TooLong}
-use Rattle.mum_frame.proofs.Headers.{HasNoFrame-above_limit}
-use Rattle.mum_io.specs.Counts.{Counts, Rose}
-use Rattle.mum_io.specs.Link.{LinkFacts}
-use Rattle.mum_outbox.specs.Facts.{PassFacts, QueueFacts}
-use Rattle.mum_outbox.specs.declared.parcel.PostParcel.{PostParcel}
-use Rattle.mum_outbox.specs.declared.parcel.VoiceParcel.{VoiceParcel}
-use Rattle.mum_session.specs.Machine.{session_of}
-use Rattle.mum_port.specs.Did.{PortDid, action_of, asked_item, bytes_of, desk_after_put, echo_of, is_last, machine_after, port_after_put, post_bytes, voice_bytes}
-use Rattle.mum_port.specs.Facts.{MayRead, PortFacts, due_item, may_handle, may_write, taking_session, waiting_after}
-use Rattle.mum_port.specs.Stage.{has_worked, is_live}
-use Rattle.mum_port.specs.Steps.{PortChain, Reads}
-use Rattle.mum_port.specs.Taking.{has_taken, stage_after_post}
-use Rattle.mum_port.specs.Turn.{FindsPostEmpty, FindsVoiceEmpty, IsIdle, did_nothing, voice_first_after}
-use Rattle.mum_port.specs.declared.item.DeskItem.{DeskItem}
-use Rattle.mum_port.specs.declared.port.Step.{Step}
-use Rattle.mum_port.specs.declared.passes.Passes.{Passes}
-use Rattle.mum_port.specs.declared.stage.Went.{Went}
-use Rattle.mum_port.specs.declared.stage.Went.TheVariants.{NotDue, Stalled, Worked, Closes}
-use Rattle.mum_port.proofs.Balance.{at_close-none, echo_handle, kept_put, kept_write, out_take, settle-same}
-use Rattle.mum_port.proofs.Closing.{and-left}
-use Rattle.mum_port.proofs.Course.{at_close, bytes_written, did_of, first_handle, frame, goes_on, handle_closes, handle_part, item, machine_read, machine_write, out_read, port_put, post, read_part, remains, passes_handle, session_handle, take_part, took, unsent, voice, write_part}
-use Rattle.mum_port.proofs.Ends.{may_same, rose_read, rose_write}
-use Rattle.mum_port.proofs.HandlePart.{HandleShows, HandledOrNot}
-use Rattle.mum_port.proofs.Parcels.{taking_same}
-use Rattle.mum_port.proofs.ReadPart.{ReadShows, closes, put-due, put-pass, put-some, put-worked, read-shows, stage_by-open}
-use Rattle.mum_port.proofs.Resting.{may-live}
-use Rattle.mum_port.proofs.WritePart.{WriteShows}
+use Rattle.mum_port.proofs.Common.{◌≡◌, ◌≢◌, ℕ, Bool, true, false, ◌&&◌, ◌||◌, IsTrue, List, [], ◌∷◌, ◌++◌, Option, Some, None, is_none, is_some, not, refl, sym, ap, subst, ◌∙◌, inl, inr, true≢false, append-nil, list_any, Cause, End, LinkFault, FrameTooLong, Rejected, Kicked, Lagged, Memory, SessionId, Frame, HasNoFrame, IsFrame, TooLong, HasNoFrame-above_limit, Counts, Rose, LinkFacts, PassFacts, QueueFacts, PostFacts, VoiceFacts, session_of, PortDid, action_of, asked_item, bytes_of, desk_after_put, echo_of, is_last, machine_after, port_after_put, post_bytes, voice_bytes, MayRead, PortFacts, due_item, may_handle, may_write, taking_session, waiting_after, has_worked, is_live, PortChain, Reads, has_taken, stage_after_post, FindsPostEmpty, FindsVoiceEmpty, IsIdle, did_nothing, voice_first_after, DeskItem, Step, PassesFacts, Went, NotDue, Stalled, Worked, Closes}
+use Rattle.mum_port.proofs.{Balance.at_close-none, Balance.echo_handle, Balance.kept_put, Balance.kept_write, Balance.out_take, Balance.settle-same, Closing.and-left, Course.at_close, Course.bytes_written, Course.did_of, Course.first_handle, Course.frame, Course.goes_on, Course.handle_closes, Course.handle_part, Course.item, Course.machine_read, Course.machine_write, Course.out_read, Course.port_put, Course.post, Course.read_part, Course.remains, Course.passes_handle, Course.session_handle, Course.take_part, Course.took, Course.unsent, Course.voice, Course.write_part, Ends.may_same, Ends.rose_read, Ends.rose_write, HandlePart.HandleShows, HandlePart.HandledOrNot, Parcels.taking_same, ReadPart.ReadShows, ReadPart.closes, ReadPart.put-due, ReadPart.put-pass, ReadPart.put-some, ReadPart.put-worked, ReadPart.read-shows, ReadPart.stage_by-open, Resting.may-live, WritePart.WriteShows}
 
 -- ---- tests
 
@@ -60,7 +27,7 @@ worked-closes Worked idle = refl
 worked-closes (Closes cause) idle = absurd (true≢false idle)
 
 -- neither box had anything
-abbrev FindBoxesEmpty : List QueueFacts → List QueueFacts → Option Passes → Option Passes → Type 0
+abbrev FindBoxesEmpty : List QueueFacts → List QueueFacts → Option PassesFacts → Option PassesFacts → Type 0
 FindBoxesEmpty posts voices passes after = FindsPostEmpty posts passes after × FindsVoiceEmpty voices passes after
 
 -- ---- what an idle part shows
@@ -120,7 +87,7 @@ port_same : {L : Type 0} (new old : PortFacts L) → new.machine ≡ old.machine
     → new ≡ record old { link = new.link; framer = new.framer; passes = new.passes }
 port_same new old machine waiting out first stage = rw (sym machine, sym waiting, sym out, sym first, sym stage) refl
 
-did_same : (put : Option DeskItem) (took lost : List ℕ) (handled : Option Frame) (post : Option PostParcel) (voice : Option VoiceParcel) (wrote unsaid : List ℕ) (closed : Option Cause)
+did_same : (put : Option DeskItem) (took lost : List ℕ) (handled : Option Frame) (post : Option PostFacts) (voice : Option VoiceFacts) (wrote unsaid : List ℕ) (closed : Option Cause)
     → put ≡ None → took ≡ [] → lost ≡ [] → handled ≡ None → post ≡ None → voice ≡ None → wrote ≡ [] → unsaid ≡ [] → closed ≡ None
     → record { put = put; took = took; lost = lost; handled = handled; post = post; voice = voice; wrote = wrote; unsaid = unsaid; closed = closed } ≡ did_nothing
 did_same put took lost handled post voice wrote unsaid closed a b c d e f g h i = rw (a, b, c, d, e, f, g, h, i) refl
@@ -248,19 +215,19 @@ module _ {L V : Type 0} {facts : L → LinkFacts} {routed : V → ℕ → Sessio
 
   out_taken : AllIdle → c.after_take.out ≡ old.out
   out_taken idle =
-      out_take c ∙ (ap (λ (v : Option VoiceParcel). (c.after_handle.out ++ post_bytes (session_of old.machine.stage) (post c)) ++ voice_bytes (session_of old.machine.stage) v) (none_voice idle)
+      out_take c ∙ (ap (λ (v : Option VoiceFacts). (c.after_handle.out ++ post_bytes (session_of old.machine.stage) (post c)) ++ voice_bytes (session_of old.machine.stage) v) (none_voice idle)
       ∙ (append-nil (c.after_handle.out ++ post_bytes (session_of old.machine.stage) (post c))
-      ∙ (ap (λ (p : Option PostParcel). c.after_handle.out ++ post_bytes (session_of old.machine.stage) p) (none_post idle)
+      ∙ (ap (λ (p : Option PostFacts). c.after_handle.out ++ post_bytes (session_of old.machine.stage) p) (none_post idle)
       ∙ (append-nil c.after_handle.out ∙ out_idle idle))))
 
   stage_taken : AllIdle → c.after_take.stage ≡ old.stage
   stage_taken idle =
-      (take_part c).stage ∙ (ap (λ (p : Option PostParcel). stage_after_post (is_last (session_of c.after_handle.machine.stage) p) c.after_handle.stage) (none_post idle) ∙ stage_idle idle)
+      (take_part c).stage ∙ (ap (λ (p : Option PostFacts). stage_after_post (is_last (session_of c.after_handle.machine.stage) p) c.after_handle.stage) (none_post idle) ∙ stage_idle idle)
 
   first_taken : AllIdle → c.after_take.voice_first ≡ old.voice_first
   first_taken idle =
-      (take_part c).next ∙ (ap (λ (v : Option VoiceParcel). voice_first_after (post c) v c.after_handle.voice_first) (none_voice idle)
-      ∙ (ap (λ (p : Option PostParcel). voice_first_after p None c.after_handle.voice_first) (none_post idle) ∙ first_handle c))
+      (take_part c).next ∙ (ap (λ (v : Option VoiceFacts). voice_first_after (post c) v c.after_handle.voice_first) (none_voice idle)
+      ∙ (ap (λ (p : Option PostFacts). voice_first_after p None c.after_handle.voice_first) (none_post idle) ∙ first_handle c))
 
   machine_idle : AllIdle → c.after_write.machine ≡ old.machine
   machine_idle idle = machine_write c ∙ ap (λ (f : Option Frame). machine_after old.machine f) (handle_so idle).0
@@ -272,8 +239,8 @@ module _ {L V : Type 0} {facts : L → LinkFacts} {routed : V → ℕ → Sessio
   empty_idle idle session looks =
       let may = taking_same c.after_handle old (stage_idle idle) (out_idle idle) (session_handle c) ∙ looks in
       let gave_none : (post_bytes (Some session) (post c) ≡ []) × (is_last (Some session) (post c) ≡ false) =
-      (ap (λ (p : Option PostParcel). post_bytes (Some session) p) (none_post idle), ap (λ (p : Option PostParcel). is_last (Some session) p) (none_post idle)) in
-      subst (λ (s : Option Passes). FindBoxesEmpty posts voices s c.after_take.passes) (passes_handle c)
+      (ap (λ (p : Option PostFacts). post_bytes (Some session) p) (none_post idle), ap (λ (p : Option PostFacts). is_last (Some session) p) (none_post idle)) in
+      subst (λ (s : Option PassesFacts). FindBoxesEmpty posts voices s c.after_take.passes) (passes_handle c)
       ((take_part c).post_empty_so session may (none_post idle) (λ first. none_voice idle), (take_part c).voice_empty_so session may (none_voice idle) (λ first. gave_none))
 
   pub is_idle : step.worked ≡ false → IsIdle facts posts voices old desk (did_of c) new desk_after

@@ -1,3 +1,5 @@
+mod Common
+pub mod Public
 pub mod Asking
 pub mod Awaiting
 pub mod Balance
@@ -12,6 +14,7 @@ pub mod Lifelong
 pub mod Links
 pub mod Living
 pub mod Machines
+pub mod Noting
 pub mod ReadPart
 pub mod Resting
 pub mod Parcels

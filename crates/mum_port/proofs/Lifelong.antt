@@ -1,21 +1,5 @@
 -- What holds of a connection from its taking in on.
-use Rattle.std.proofs.Common.{◌≡◌, ℕ, false, List, ◌++◌, Option, Some, None, refl, sym, ap, subst, ◌∙◌, All}
-use Rattle.std.specs.List.{flat_map}
-use Rattle.std.proofs.lemmas.List.{append-nil}
-use Rattle.mum_base.specs.declared.number.Cause.{Cause}
-use Rattle.mum_base.specs.declared.number.Cause.TheVariants.{End}
-use Rattle.mum_base.specs.declared.number.SessionId.{SessionId}
-use Rattle.mum_frame.specs.declared.frame.Frame.{Frame}
-use Rattle.mum_frame.specs.Frame.{HasNoFrame, IsFrame, frame_spelling}
-use Rattle.mum_frame.specs.Stream.{IsFront, Splits}
-use Rattle.mum_frame.proofs.Streams.{longest-Splits}
-use Rattle.mum_io.specs.Link.{LinkFacts}
-use Rattle.mum_session.specs.Machine.{Machine}
-use Rattle.mum_port.specs.Did.{PortDid, bytes_of}
-use Rattle.mum_port.specs.Facts.{PortFacts, new_port}
-use Rattle.mum_port.specs.Life.{Event, Lives, Steps, bytes_queued, bytes_taken, bytes_written, frames_handled}
-use Rattle.mum_port.specs.Stage.{is_closed}
-use Rattle.mum_port.specs.Turn.{Settled}
+use Rattle.mum_port.proofs.Common.{◌≡◌, ℕ, false, List, ◌++◌, Option, Some, None, refl, sym, ap, subst, ◌∙◌, All, flat_map, append-nil, Cause, End, SessionId, Frame, HasNoFrame, IsFrame, frame_spelling, IsFront, Splits, longest-Splits, LinkFacts, Machine, PortDid, bytes_of, PortFacts, new_port, Event, Lives, Steps, bytes_queued, bytes_taken, bytes_written, frames_handled, is_closed, Settled}
 use Rattle.mum_port.proofs.Living.{life_handled, life_wrote}
 
 module _ {L V : Type 0} (facts : L → LinkFacts) (routed : V → ℕ → SessionId → List ℕ → V → Type 0) where

@@ -1,7 +1,5 @@
--- What follows of what a link tells of its bytes.
-use Rattle.std.proofs.Common.{ℕ, List, [], ◌++◌, Option, Some, None, sym, ◌∙◌, ap}
-use Rattle.mum_io.specs.Link.{Appends, Consumes, Keeps}
-use Rattle.std.proofs.lemmas.List.{append-nil}
+-- What follows of what a link reports of its bytes.
+use Rattle.mum_port.proofs.Common.{ℕ, List, [], ◌++◌, Option, Some, None, sym, ◌∙◌, ap, Appends, Consumes, Keeps, append-nil}
 
 -- bytes that stay are consumed by none
 pub Keeps-consumes : (old new : Option (List ℕ)) → Keeps old new → Consumes old new []

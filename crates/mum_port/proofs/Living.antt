@@ -1,25 +1,6 @@
 -- What holds of a port whatever happens to it: what it handled, and what it wrote.
-use Rattle.std.proofs.Common.{◌≡◌, ◌≢◌, ℕ, true, false, IsTrue, List, [], ◌∷◌, ◌++◌, Option, Some, None, refl, sym, ap, subst, ◌∙◌, inl, inr, ⊎_elim, true≢false, append_assoc, All}
-use Rattle.std.specs.Prelude.{option_to_list}
-use Rattle.std.specs.List.{flat_map}
-use Rattle.std.proofs.lemmas.List.{append-nil}
-use Rattle.std.proofs.lemmas.List.Elements.{All-cons, All-nil}
-use Rattle.mum_base.specs.declared.number.Cause.{Cause}
-use Rattle.mum_base.specs.declared.number.SessionId.{SessionId}
-use Rattle.mum_frame.specs.declared.frame.Frame.{Frame}
-use Rattle.mum_frame.specs.Frame.{IsFrame, frame_spelling}
-use Rattle.mum_io.specs.Link.{LinkFacts}
-use Rattle.mum_outbox.specs.declared.parcel.PostParcel.{PostParcel}
-use Rattle.mum_session.specs.Machine.{Machine, session_of}
-use Rattle.mum_port.specs.Did.{PortDid, bytes_of, is_last, machine_after, port_after_put, queued, stage_once_put}
-use Rattle.mum_port.specs.Facts.{PortFacts, may_handle}
-use Rattle.mum_port.specs.Life.{Event, Lives, Steps, bytes_queued, bytes_taken, bytes_written, frames_handled, lagged, replied, stepped}
-use Rattle.mum_port.specs.Stage.{is_closed}
-use Rattle.mum_port.specs.Taking.{stage_after_post}
-use Rattle.mum_port.specs.Turn.{Settled, StaysInTurn}
-use Rattle.mum_port.proofs.BoxParts.{taking-is}
-use Rattle.mum_port.proofs.Course.{stage_once_put-closed}
-use Rattle.mum_port.proofs.Resting.{live-open, may-live}
+use Rattle.mum_port.proofs.Common.{◌≡◌, ◌≢◌, ℕ, true, false, IsTrue, List, [], ◌∷◌, ◌++◌, Option, Some, None, refl, sym, ap, subst, ◌∙◌, inl, inr, ⊎_elim, true≢false, append_assoc, All, option_to_list, flat_map, append-nil, All-cons, All-nil, Cause, SessionId, Frame, IsFrame, frame_spelling, LinkFacts, PostFacts, Machine, session_of, PortDid, bytes_of, is_last, machine_after, port_after_put, queued, stage_once_put, PortFacts, may_handle, Event, Lives, Steps, bytes_queued, bytes_taken, bytes_written, frames_handled, lagged, replied, stepped, is_closed, stage_after_post, Settled, StaysInTurn}
+use Rattle.mum_port.proofs.{BoxParts.taking-is, Course.stage_once_put-closed, Resting.live-open, Resting.may-live}
 
 abbrev spelled : List Frame → List ℕ
 spelled frames = flat_map frame_spelling frames
@@ -81,7 +62,7 @@ module _ {L V : Type 0} (facts : L → LinkFacts) (routed : V → ℕ → Sessio
         no_write = empty_there did.wrote (λ some. absurd (true≢false (sym closed ∙ steps.turn.writes.allowed some)));
         no_close = stays.0;
         machine = steps.turn.handles.machine ∙ ap (λ (f : Option Frame). machine_after old.machine f) no_frame;
-        stage = stays.1.stage ∙ ap (λ (p : Option PostParcel). stage_after_post (is_last (session_of old.machine.stage) p) (stage_once_put did.put old.waiting old.stage)) no_post;
+        stage = stays.1.stage ∙ ap (λ (p : Option PostFacts). stage_after_post (is_last (session_of old.machine.stage) p) (stage_once_put did.put old.waiting old.stage)) no_post;
       }
 
   quiet-closed : (old : PortFacts L) (did : PortDid) (new : PortFacts L) → Quiet old did new → is_closed old.stage ≡ true → is_closed new.stage ≡ true

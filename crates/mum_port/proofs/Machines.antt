@@ -1,9 +1,5 @@
 -- What frames and replies leave of the machine of a connection.
-use Rattle.std.proofs.Common.{◌≡◌, ℕ, List, Result, Ok, Err, OnErr, OnOk, refl, ap, ◌∙◌}
-use Rattle.std.specs.declared.alloc.AllocError.{AllocError}
-use Rattle.mum_session.specs.Action.{after_frame}
-use Rattle.mum_session.specs.Machine.{Machine}
-use Rattle.mum_session.specs.declared.action.Action.{Action}
+use Rattle.mum_port.proofs.Common.{◌≡◌, ℕ, List, Result, Ok, Err, OnErr, OnOk, refl, ap, ◌∙◌, AllocError, after_frame, Machine, Action}
 
 pub connection-after_frame : (machine : Machine) (kind : ℕ) (payload : List ℕ) → (after_frame machine kind payload).connection ≡ machine.connection
 unfolding after_frame

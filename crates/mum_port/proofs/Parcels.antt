@@ -1,28 +1,12 @@
 -- What the takes from both boxes leave, whichever came first, by the parcels that were taken.
-use Rattle.std.proofs.Common.{◌≡◌, ◌≢◌, ℕ, Bool, true, false, ◌&&◌, ◌||◌, not, List, [], ◌∷◌, ◌++◌, Option, Some, None, refl, sym, ap, subst, ◌∙◌, ◌⊎◌, inl, inr, ⊎_elim, true≢false}
-use Rattle.std.proofs.lemmas.List.{append-nil}
-use Rattle.mum_base.specs.declared.number.SessionId.{SessionId}
-use Rattle.mum_base.specs.declared.number.TheConstants.{POST_CAPACITY, VOICE_CAPACITY}
-use Rattle.mum_outbox.specs.Facts.{PassFacts, QueueFacts}
-use Rattle.mum_outbox.specs.declared.parcel.PostParcel.{PostParcel}
-use Rattle.mum_outbox.specs.declared.parcel.VoiceParcel.{VoiceParcel}
-use Rattle.mum_session.specs.Machine.{Machine, session_of}
-use Rattle.mum_port.specs.Did.{is_last, post_bytes, stray_posts, stray_voices, voice_bytes}
-use Rattle.mum_port.specs.Facts.{PortFacts, taking_session}
-use Rattle.mum_port.specs.Steps.{CollectsBehind, TakesParcels}
-use Rattle.mum_port.specs.Taking.{foreign_count, has_taken, stage_after_post}
-use Rattle.mum_port.specs.Turn.{FindsNothing, FindsPostEmpty, FindsVoiceEmpty, TakesAtMostOne, voice_first_after}
-use Rattle.mum_port.specs.declared.outbound.Taking.{Taking}
+use Rattle.mum_port.proofs.Common.{◌≡◌, ◌≢◌, ℕ, Bool, true, false, ◌&&◌, ◌||◌, not, List, [], ◌∷◌, ◌++◌, Option, Some, None, refl, sym, ap, subst, ◌∙◌, ◌⊎◌, inl, inr, ⊎_elim, true≢false, append-nil, SessionId, POST_CAPACITY, VOICE_CAPACITY, PassFacts, QueueFacts, PostFacts, VoiceFacts, Machine, session_of, is_last, post_bytes, stray_posts, stray_voices, voice_bytes, PortFacts, taking_session, CollectsBehind, TakesParcels, foreign_count, has_taken, stage_after_post, FindsNothing, FindsPostEmpty, FindsVoiceEmpty, TakesAtMostOne, voice_first_after, Taking, PassesFacts, Stage, Live}
 use Rattle.mum_port.specs.declared.outbound.Taking.TheVariants.{NotDue}
-use Rattle.mum_port.specs.declared.passes.Passes.{Passes}
-use Rattle.mum_port.specs.declared.stage.Stage.{Stage}
-use Rattle.mum_port.specs.declared.stage.Stage.TheVariants.{Live}
 use Rattle.mum_port.proofs.BoxParts.{PassesAfterPost, PassesAfterVoice, PostLeaves, VoiceLeaves, post-leaves, post_of, taking-is, voice-leaves, voice_of}
 
 -- ---- passes
 
 -- what was taken from both boxes, each looked at or not
-abbrev pub BothTaken : Option Passes → Option PostParcel → Option VoiceParcel → Option Passes → Type 0
+abbrev pub BothTaken : Option PassesFacts → Option PostFacts → Option VoiceFacts → Option PassesFacts → Type 0
 BothTaken None post voice None = (post ≡ None) × (voice ≡ None)
 BothTaken None post voice (Some after) = ⊥
 BothTaken (Some passes) post voice None = ⊥
@@ -30,39 +14,39 @@ BothTaken (Some passes) post voice (Some after) =
     (after.slot ≡ passes.slot) × TakesAtMostOne POST_CAPACITY passes.post post after.post × TakesAtMostOne VOICE_CAPACITY passes.voice voice after.voice
 
 -- what one take leaves, whether the box was looked at or not
-abbrev PostTaken : Option Passes → Option PostParcel → Option Passes → Type 0
+abbrev PostTaken : Option PassesFacts → Option PostFacts → Option PassesFacts → Type 0
 PostTaken None post None = post ≡ None
 PostTaken None post (Some after) = ⊥
 PostTaken (Some passes) post None = ⊥
 PostTaken (Some passes) post (Some after) = (after.slot ≡ passes.slot) × (after.voice ≡ passes.voice) × TakesAtMostOne POST_CAPACITY passes.post post after.post
 
-abbrev VoiceTaken : Option Passes → Option VoiceParcel → Option Passes → Type 0
+abbrev VoiceTaken : Option PassesFacts → Option VoiceFacts → Option PassesFacts → Type 0
 VoiceTaken None voice None = voice ≡ None
 VoiceTaken None voice (Some after) = ⊥
 VoiceTaken (Some passes) voice None = ⊥
 VoiceTaken (Some passes) voice (Some after) = (after.slot ≡ passes.slot) × (after.post ≡ passes.post) × TakesAtMostOne VOICE_CAPACITY passes.voice voice after.voice
 
-post_unlooked : (passes : Option Passes) (post : Option PostParcel) → post ≡ None → PostTaken passes post passes
+post_unlooked : (passes : Option PassesFacts) (post : Option PostFacts) → post ≡ None → PostTaken passes post passes
 post_unlooked None post none = none
 post_unlooked (Some passes) post none = (refl, refl, inl (none, refl))
 
-post_looked : (posts : List QueueFacts) (passes : Option Passes) (post : Option PostParcel) (after : Option Passes) → PassesAfterPost posts passes post after → PostTaken passes post after
+post_looked : (posts : List QueueFacts) (passes : Option PassesFacts) (post : Option PostFacts) (after : Option PassesFacts) → PassesAfterPost posts passes post after → PostTaken passes post after
 post_looked posts None post None takes = takes
 post_looked posts None post (Some after) takes = takes
 post_looked posts (Some passes) post None takes = takes
 post_looked posts (Some passes) post (Some after) takes = (takes.0, takes.1, takes.2)
 
-voice_unlooked : (passes : Option Passes) (voice : Option VoiceParcel) → voice ≡ None → VoiceTaken passes voice passes
+voice_unlooked : (passes : Option PassesFacts) (voice : Option VoiceFacts) → voice ≡ None → VoiceTaken passes voice passes
 voice_unlooked None voice none = none
 voice_unlooked (Some passes) voice none = (refl, refl, inl (none, refl))
 
-voice_looked : (voices : List QueueFacts) (passes : Option Passes) (voice : Option VoiceParcel) (after : Option Passes) → PassesAfterVoice voices passes voice after → VoiceTaken passes voice after
+voice_looked : (voices : List QueueFacts) (passes : Option PassesFacts) (voice : Option VoiceFacts) (after : Option PassesFacts) → PassesAfterVoice voices passes voice after → VoiceTaken passes voice after
 voice_looked voices None voice None takes = takes
 voice_looked voices None voice (Some after) takes = takes
 voice_looked voices (Some passes) voice None takes = takes
 voice_looked voices (Some passes) voice (Some after) takes = (takes.0, takes.1, takes.2)
 
-post_then_voice : (passes mid after : Option Passes) (post : Option PostParcel) (voice : Option VoiceParcel) → PostTaken passes post mid → VoiceTaken mid voice after → BothTaken passes post voice after
+post_then_voice : (passes mid after : Option PassesFacts) (post : Option PostFacts) (voice : Option VoiceFacts) → PostTaken passes post mid → VoiceTaken mid voice after → BothTaken passes post voice after
 post_then_voice None None None post voice posted heard = (posted, heard)
 post_then_voice None None (Some after) post voice posted heard = absurd heard
 post_then_voice None (Some mid) after post voice posted heard = absurd posted
@@ -70,11 +54,11 @@ post_then_voice (Some passes) None after post voice posted heard = absurd posted
 post_then_voice (Some passes) (Some mid) None post voice posted heard = absurd heard
 post_then_voice (Some passes) (Some mid) (Some after) post voice posted heard = (
   heard.0 ∙ posted.0,
-  subst (λ (p : PassFacts PostParcel). TakesAtMostOne POST_CAPACITY passes.post post p) (sym heard.1) posted.2,
-  subst (λ (p : PassFacts VoiceParcel). TakesAtMostOne VOICE_CAPACITY p voice after.voice) posted.1 heard.2,
+  subst (λ (p : PassFacts PostFacts). TakesAtMostOne POST_CAPACITY passes.post post p) (sym heard.1) posted.2,
+  subst (λ (p : PassFacts VoiceFacts). TakesAtMostOne VOICE_CAPACITY p voice after.voice) posted.1 heard.2,
 )
 
-voice_then_post : (passes mid after : Option Passes) (post : Option PostParcel) (voice : Option VoiceParcel) → VoiceTaken passes voice mid → PostTaken mid post after → BothTaken passes post voice after
+voice_then_post : (passes mid after : Option PassesFacts) (post : Option PostFacts) (voice : Option VoiceFacts) → VoiceTaken passes voice mid → PostTaken mid post after → BothTaken passes post voice after
 voice_then_post None None None post voice heard posted = (posted, heard)
 voice_then_post None None (Some after) post voice heard posted = absurd posted
 voice_then_post None (Some mid) after post voice heard posted = absurd heard
@@ -82,13 +66,13 @@ voice_then_post (Some passes) None after post voice heard posted = absurd heard
 voice_then_post (Some passes) (Some mid) None post voice heard posted = absurd posted
 voice_then_post (Some passes) (Some mid) (Some after) post voice heard posted = (
   posted.0 ∙ heard.0,
-  subst (λ (p : PassFacts PostParcel). TakesAtMostOne POST_CAPACITY p post after.post) heard.1 posted.2,
-  subst (λ (p : PassFacts VoiceParcel). TakesAtMostOne VOICE_CAPACITY passes.voice voice p) (sym posted.1) heard.2,
+  subst (λ (p : PassFacts PostFacts). TakesAtMostOne POST_CAPACITY p post after.post) heard.1 posted.2,
+  subst (λ (p : PassFacts VoiceFacts). TakesAtMostOne VOICE_CAPACITY passes.voice voice p) (sym posted.1) heard.2,
 )
 
 -- ---- boxes that had nothing
 
-post_empty : (posts : List QueueFacts) (passes mid after : Option Passes) (post : Option PostParcel) (voice : Option VoiceParcel)
+post_empty : (posts : List QueueFacts) (passes mid after : Option PassesFacts) (post : Option PostFacts) (voice : Option VoiceFacts)
     → PassesAfterPost posts passes post mid → post ≡ None → VoiceTaken mid voice after → FindsPostEmpty posts passes after
 post_empty posts None None None post voice posted none heard = refl
 post_empty posts None None (Some after) post voice posted none heard = absurd heard
@@ -96,9 +80,9 @@ post_empty posts None (Some mid) after post voice posted none heard = absurd pos
 post_empty posts (Some passes) None after post voice posted none heard = absurd posted
 post_empty posts (Some passes) (Some mid) None post voice posted none heard = absurd heard
 post_empty posts (Some passes) (Some mid) (Some after) post voice posted none heard =
-    subst (λ (p : PassFacts PostParcel). FindsNothing POST_CAPACITY posts passes.slot.0 passes.post p) (sym heard.1) (posted.3 none)
+    subst (λ (p : PassFacts PostFacts). FindsNothing POST_CAPACITY posts passes.slot.0 passes.post p) (sym heard.1) (posted.3 none)
 
-voice_empty : (voices : List QueueFacts) (passes mid after : Option Passes) (post : Option PostParcel) (voice : Option VoiceParcel)
+voice_empty : (voices : List QueueFacts) (passes mid after : Option PassesFacts) (post : Option PostFacts) (voice : Option VoiceFacts)
     → PassesAfterVoice voices passes voice mid → voice ≡ None → PostTaken mid post after → FindsVoiceEmpty voices passes after
 voice_empty voices None None None post voice heard none posted = refl
 voice_empty voices None None (Some after) post voice heard none posted = absurd posted
@@ -106,10 +90,10 @@ voice_empty voices None (Some mid) after post voice heard none posted = absurd h
 voice_empty voices (Some passes) None after post voice heard none posted = absurd heard
 voice_empty voices (Some passes) (Some mid) None post voice heard none posted = absurd posted
 voice_empty voices (Some passes) (Some mid) (Some after) post voice heard none posted =
-    subst (λ (p : PassFacts VoiceParcel). FindsNothing VOICE_CAPACITY voices passes.slot.0 passes.voice p) (sym posted.1) (heard.3 none)
+    subst (λ (p : PassFacts VoiceFacts). FindsNothing VOICE_CAPACITY voices passes.slot.0 passes.voice p) (sym posted.1) (heard.3 none)
 
 -- the second box was looked at with the passes that the first left
-voice_empty_behind : (voices : List QueueFacts) (passes mid after : Option Passes) (post : Option PostParcel) (voice : Option VoiceParcel)
+voice_empty_behind : (voices : List QueueFacts) (passes mid after : Option PassesFacts) (post : Option PostFacts) (voice : Option VoiceFacts)
     → PostTaken passes post mid → PassesAfterVoice voices mid voice after → voice ≡ None → FindsVoiceEmpty voices passes after
 voice_empty_behind voices None None None post voice posted heard none = refl
 voice_empty_behind voices None None (Some after) post voice posted heard none = absurd heard
@@ -118,9 +102,9 @@ voice_empty_behind voices (Some passes) None after post voice posted heard none 
 voice_empty_behind voices (Some passes) (Some mid) None post voice posted heard none = absurd heard
 voice_empty_behind voices (Some passes) (Some mid) (Some after) post voice posted heard none =
     subst (λ (n : ℕ). FindsNothing VOICE_CAPACITY voices n passes.voice after.voice) (ap (λ (s : _). s.0) posted.0)
-    (subst (λ (p : PassFacts VoiceParcel). FindsNothing VOICE_CAPACITY voices mid.slot.0 p after.voice) posted.1 (heard.3 none))
+    (subst (λ (p : PassFacts VoiceFacts). FindsNothing VOICE_CAPACITY voices mid.slot.0 p after.voice) posted.1 (heard.3 none))
 
-post_empty_behind : (posts : List QueueFacts) (passes mid after : Option Passes) (post : Option PostParcel) (voice : Option VoiceParcel)
+post_empty_behind : (posts : List QueueFacts) (passes mid after : Option PassesFacts) (post : Option PostFacts) (voice : Option VoiceFacts)
     → VoiceTaken passes voice mid → PassesAfterPost posts mid post after → post ≡ None → FindsPostEmpty posts passes after
 post_empty_behind posts None None None post voice heard posted none = refl
 post_empty_behind posts None None (Some after) post voice heard posted none = absurd posted
@@ -129,11 +113,11 @@ post_empty_behind posts (Some passes) None after post voice heard posted none = 
 post_empty_behind posts (Some passes) (Some mid) None post voice heard posted none = absurd posted
 post_empty_behind posts (Some passes) (Some mid) (Some after) post voice heard posted none =
     subst (λ (n : ℕ). FindsNothing POST_CAPACITY posts n passes.post after.post) (ap (λ (s : _). s.0) heard.0)
-    (subst (λ (p : PassFacts PostParcel). FindsNothing POST_CAPACITY posts mid.slot.0 p after.post) heard.1 (posted.3 none))
+    (subst (λ (p : PassFacts PostFacts). FindsNothing POST_CAPACITY posts mid.slot.0 p after.post) heard.1 (posted.3 none))
 
 -- ---- which box comes first then
 
-next_first : (post : Option PostParcel) (voice : Option VoiceParcel) (posted heard before : Bool)
+next_first : (post : Option PostFacts) (voice : Option VoiceFacts) (posted heard before : Bool)
     → (posted ≡ false → post ≡ None) → (posted ≡ true → post ≢ None) → (heard ≡ false → voice ≡ None) → (heard ≡ true → voice ≢ None)
     → (not heard && (posted || before)) ≡ voice_first_after post voice before
 next_first post (Some voice) posted true before no_post some_post no_voice some_voice = refl
@@ -165,17 +149,17 @@ none_some : {P : Type 0} (found : Option SessionId) (session : SessionId) → fo
 none_some found session none some = absurd (cc (sym none ∙ some))
 
 module _ {L : Type 0} (posts : List QueueFacts) where
-  abbrev pub post_behind : (taken : Bool) (old : PortFacts L) (posted : Taking) (new : PortFacts L) → CollectsBehind posts taken old posted new → Option PostParcel
+  abbrev pub post_behind : (taken : Bool) (old : PortFacts L) (posted : Taking) (new : PortFacts L) → CollectsBehind posts taken old posted new → Option PostFacts
   post_behind true old posted new collects = None
   post_behind false old posted new collects = post_of posts old posted new collects
 
 module _ {L : Type 0} (posts voices : List QueueFacts) where
   -- the boxes were not looked at, or the port might look at them
-  abbrev pub LookedForParcels : PortFacts L → Option PostParcel → Option VoiceParcel → PortFacts L → Type 0
+  abbrev pub LookedForParcels : PortFacts L → Option PostFacts → Option VoiceFacts → PortFacts L → Type 0
   LookedForParcels old post voice new =
       ((post ≡ None) × (voice ≡ None) × (new.passes ≡ old.passes)) ⊎ ((session : SessionId) × (taking_session old ≡ Some session))
 
-  pub record ParcelsLeave (old : PortFacts L) (posted heard : Taking) (new : PortFacts L) (post : Option PostParcel) (voice : Option VoiceParcel) : Type 0 where
+  pub record ParcelsLeave (old : PortFacts L) (posted heard : Taking) (new : PortFacts L) (post : Option PostFacts) (voice : Option VoiceFacts) : Type 0 where
     pub out : new.out ≡ (old.out ++ post_bytes (session_of old.machine.stage) post) ++ voice_bytes (session_of old.machine.stage) voice
     pub stage : new.stage ≡ stage_after_post (is_last (session_of old.machine.stage) post) old.stage
     pub post_count : foreign_count posted ≡ stray_posts (session_of old.machine.stage) post
@@ -199,36 +183,36 @@ module _ {L : Type 0} (posts voices : List QueueFacts) where
 
   -- ---- each part by itself
 
-  post_took : (old : PortFacts L) (posted : Taking) (new : PortFacts L) (post : Option PostParcel) → PostLeaves posts old posted new post → PostTaken old.passes post new.passes
+  post_took : (old : PortFacts L) (posted : Taking) (new : PortFacts L) (post : Option PostFacts) → PostLeaves posts old posted new post → PostTaken old.passes post new.passes
   post_took old posted new post leaves = ⊎_elim
       (λ unlooked. subst (PostTaken old.passes post) (sym (ap (λ (p : PortFacts L). p.passes) unlooked.1)) (post_unlooked old.passes post unlooked.0))
       (λ looked. post_looked posts old.passes post new.passes looked.2) leaves.looked
 
-  voice_took : (old : PortFacts L) (heard : Taking) (new : PortFacts L) (voice : Option VoiceParcel) → VoiceLeaves voices old heard new voice → VoiceTaken old.passes voice new.passes
+  voice_took : (old : PortFacts L) (heard : Taking) (new : PortFacts L) (voice : Option VoiceFacts) → VoiceLeaves voices old heard new voice → VoiceTaken old.passes voice new.passes
   voice_took old heard new voice leaves = ⊎_elim
       (λ unlooked. subst (VoiceTaken old.passes voice) (sym (ap (λ (p : PortFacts L). p.passes) unlooked.1)) (voice_unlooked old.passes voice unlooked.0))
       (λ looked. voice_looked voices old.passes voice new.passes looked.2) leaves.looked
 
   -- where the port might look it did, and where it took something it might
-  post_was_looked : (old : PortFacts L) (posted : Taking) (new : PortFacts L) (post : Option PostParcel) (session : SessionId) → PostLeaves posts old posted new post
+  post_was_looked : (old : PortFacts L) (posted : Taking) (new : PortFacts L) (post : Option PostFacts) (session : SessionId) → PostLeaves posts old posted new post
       → taking_session old ≡ Some session → PassesAfterPost posts old.passes post new.passes
   post_was_looked old posted new post session leaves may = ⊎_elim (λ unlooked. none_some (taking_session old) session unlooked.2 may) (λ looked. looked.2) leaves.looked
 
-  voice_was_looked : (old : PortFacts L) (heard : Taking) (new : PortFacts L) (voice : Option VoiceParcel) (session : SessionId) → VoiceLeaves voices old heard new voice
+  voice_was_looked : (old : PortFacts L) (heard : Taking) (new : PortFacts L) (voice : Option VoiceFacts) (session : SessionId) → VoiceLeaves voices old heard new voice
       → taking_session old ≡ Some session → PassesAfterVoice voices old.passes voice new.passes
   voice_was_looked old heard new voice session leaves may = ⊎_elim (λ unlooked. none_some (taking_session old) session unlooked.2 may) (λ looked. looked.2) leaves.looked
 
-  post_might : (old : PortFacts L) (posted : Taking) (new : PortFacts L) (post : Option PostParcel) → PostLeaves posts old posted new post → post ≢ None
+  post_might : (old : PortFacts L) (posted : Taking) (new : PortFacts L) (post : Option PostFacts) → PostLeaves posts old posted new post → post ≢ None
       → (session : SessionId) × (taking_session old ≡ Some session)
   post_might old posted new post leaves some = ⊎_elim (λ unlooked. absurd (some unlooked.0)) (λ looked. (looked.0, looked.1)) leaves.looked
 
-  voice_might : (old : PortFacts L) (heard : Taking) (new : PortFacts L) (voice : Option VoiceParcel) → VoiceLeaves voices old heard new voice → voice ≢ None
+  voice_might : (old : PortFacts L) (heard : Taking) (new : PortFacts L) (voice : Option VoiceFacts) → VoiceLeaves voices old heard new voice → voice ≢ None
       → (session : SessionId) × (taking_session old ≡ Some session)
   voice_might old heard new voice leaves some = ⊎_elim (λ unlooked. absurd (some unlooked.0)) (λ looked. (looked.0, looked.1)) leaves.looked
 
   -- ---- the post box first
 
-  module _ (old mid new : PortFacts L) (posted heard : Taking) (post : Option PostParcel) (voice : Option VoiceParcel)
+  module _ (old mid new : PortFacts L) (posted heard : Taking) (post : Option PostFacts) (voice : Option VoiceFacts)
       (turn : old.voice_first ≡ false) (p : PostLeaves posts old posted mid post) (v : VoiceLeaves voices mid heard new voice) where
     session_mid : session_of mid.machine.stage ≡ session_of old.machine.stage
     session_mid = ap (λ (m : Machine). session_of m.stage) p.machine
@@ -284,17 +268,17 @@ module _ {L : Type 0} (posts voices : List QueueFacts) where
 
   -- ---- the voice box first
 
-  module _ (old mid new : PortFacts L) (posted heard : Taking) (post : Option PostParcel) (voice : Option VoiceParcel)
+  module _ (old mid new : PortFacts L) (posted heard : Taking) (post : Option PostFacts) (voice : Option VoiceFacts)
       (turn : old.voice_first ≡ true) (v : VoiceLeaves voices old heard mid voice) where
-    -- behind a voice packet the post box was not looked at
+    -- after a voice packet the post box was not looked at
     pub voice-alone : has_taken heard ≡ true → posted ≡ NotDue → post ≡ None → new ≡ mid → ParcelsLeave old posted heard new post voice
     voice-alone took not_due none same =
         let untaken : has_taken posted ≡ false = ap has_taken not_due in
         let no_notice : has_taken posted ≡ true → post ≢ None = λ is. absurd (true≢false (sym is ∙ untaken)) in record {
           out = ap (λ (x : PortFacts L). x.out) same ∙ (v.out ∙ ap (λ (l : List ℕ). l ++ voice_bytes (session_of old.machine.stage) voice)
-              (sym (ap (λ (x : Option PostParcel). old.out ++ post_bytes (session_of old.machine.stage) x) none ∙ append-nil old.out)));
-          stage = ap (λ (x : PortFacts L). x.stage) same ∙ (v.stage ∙ ap (λ (x : Option PostParcel). stage_after_post (is_last (session_of old.machine.stage) x) old.stage) (sym none));
-          post_count = ap foreign_count not_due ∙ ap (λ (x : Option PostParcel). stray_posts (session_of old.machine.stage) x) (sym none);
+              (sym (ap (λ (x : Option PostFacts). old.out ++ post_bytes (session_of old.machine.stage) x) none ∙ append-nil old.out)));
+          stage = ap (λ (x : PortFacts L). x.stage) same ∙ (v.stage ∙ ap (λ (x : Option PostFacts). stage_after_post (is_last (session_of old.machine.stage) x) old.stage) (sym none));
+          post_count = ap foreign_count not_due ∙ ap (λ (x : Option PostFacts). stray_posts (session_of old.machine.stage) x) (sym none);
           voice_count = v.count;
           post_idle = λ is. none;
           post_worked = no_notice;
@@ -324,7 +308,7 @@ module _ {L : Type 0} (posts voices : List QueueFacts) where
       session_then = ap (λ (m : Machine). session_of m.stage) v.machine
 
       out_then : mid.out ≡ old.out
-      out_then = v.out ∙ (ap (λ (x : Option VoiceParcel). old.out ++ voice_bytes (session_of old.machine.stage) x) no_voice ∙ append-nil old.out)
+      out_then = v.out ∙ (ap (λ (x : Option VoiceFacts). old.out ++ voice_bytes (session_of old.machine.stage) x) no_voice ∙ append-nil old.out)
 
       might_then : taking_session mid ≡ taking_session old
       might_then = taking_same mid old v.stage out_then session_then
@@ -338,7 +322,7 @@ module _ {L : Type 0} (posts voices : List QueueFacts) where
       pub voice-then-post : ParcelsLeave old posted heard new post voice
       voice-then-post = record {
         out = out_last ∙ (sym (append-nil (old.out ++ post_bytes (session_of old.machine.stage) post))
-            ∙ ap (λ (x : Option VoiceParcel). (old.out ++ post_bytes (session_of old.machine.stage) post) ++ voice_bytes (session_of old.machine.stage) x) (sym no_voice));
+            ∙ ap (λ (x : Option VoiceFacts). (old.out ++ post_bytes (session_of old.machine.stage) post) ++ voice_bytes (session_of old.machine.stage) x) (sym no_voice));
         stage = p.stage ∙ (ap (λ (s : Option SessionId). stage_after_post (is_last s post) mid.stage) session_then
             ∙ ap (λ (s : Stage). stage_after_post (is_last (session_of old.machine.stage) post) s) v.stage);
         post_count = p.count ∙ ap (λ (s : Option SessionId). stray_posts s post) session_then;
@@ -375,15 +359,15 @@ module _ {L : Type 0} (posts voices : List QueueFacts) where
 
   -- ---- both
 
-  abbrev pub post_taken : (old : PortFacts L) (posted heard : Taking) (new : PortFacts L) → TakesParcels posts voices old posted heard new → Option PostParcel
+  abbrev pub post_taken : (old : PortFacts L) (posted heard : Taking) (new : PortFacts L) → TakesParcels posts voices old posted heard new → Option PostFacts
   post_taken old posted heard new (inl first) = post_of posts old posted first.mid first.collects
   post_taken old posted heard new (inr first) = post_behind posts (has_taken heard) first.mid posted new first.collects
 
-  abbrev pub voice_taken : (old : PortFacts L) (posted heard : Taking) (new : PortFacts L) → TakesParcels posts voices old posted heard new → Option VoiceParcel
+  abbrev pub voice_taken : (old : PortFacts L) (posted heard : Taking) (new : PortFacts L) → TakesParcels posts voices old posted heard new → Option VoiceFacts
   voice_taken old posted heard new (inl first) = voice_of voices first.mid heard new first.drains
   voice_taken old posted heard new (inr first) = voice_of voices old heard first.mid first.drains
 
-  behind-leaves : (old mid new : PortFacts L) (posted heard : Taking) (voice : Option VoiceParcel) (turn : old.voice_first ≡ true) (v : VoiceLeaves voices old heard mid voice)
+  behind-leaves : (old mid new : PortFacts L) (posted heard : Taking) (voice : Option VoiceFacts) (turn : old.voice_first ≡ true) (v : VoiceLeaves voices old heard mid voice)
       (taken : Bool) (collects : CollectsBehind posts taken mid posted new) → has_taken heard ≡ taken
       → ParcelsLeave old posted heard new (post_behind posts taken mid posted new collects) voice
   behind-leaves old mid new posted heard voice turn v true collects is = voice-alone old mid new posted heard None voice turn v is collects.0 refl collects.1

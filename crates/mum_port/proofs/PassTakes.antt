@@ -1,32 +1,10 @@
 -- What a step takes from the boxes of its passes.
-use Rattle.std.proofs.Common.{◌≡◌, ℕ, ◌+◌, Bool, List, [], ◌++◌, Option, Some, None, refl, sym, ap, subst, ◌∙◌, inl, inr, ⊎_elim}
-use Rattle.mum_base.specs.declared.number.SessionId.{SessionId}
-use Rattle.mum_io.specs.Link.{LinkFacts}
-use Rattle.mum_outbox.specs.Facts.{PassFacts, QueueFacts}
-use Rattle.mum_session.specs.Machine.{session_of}
-use Rattle.mum_port.specs.Did.{PortDid, stray_posts, stray_voices}
-use Rattle.mum_port.specs.Facts.{PortFacts, taking_session}
-use Rattle.mum_port.specs.Stage.{stage_by}
-use Rattle.mum_port.specs.Steps.{PortChain}
-use Rattle.mum_port.specs.Taking.{foreign_count}
-use Rattle.mum_port.specs.Turn.{FindsPostEmpty, FindsVoiceEmpty, LooksWhereItMay, PassesTake, TakesByTurns, TakesInTurn, voice_first_after}
-use Rattle.mum_port.specs.declared.item.DeskItem.{DeskItem}
-use Rattle.mum_port.specs.declared.port.Step.{Step}
-use Rattle.mum_port.specs.declared.passes.Passes.{Passes}
-use Rattle.mum_port.specs.declared.stage.Stage.{Stage}
-use Rattle.mum_port.specs.declared.stage.Stage.TheVariants.{Live, Ending, Closed}
-use Rattle.mum_port.specs.declared.stage.Went.{Went}
-use Rattle.mum_port.specs.declared.stage.Went.TheVariants.{NotDue, Stalled, Worked, Closes}
-use Rattle.mum_port.proofs.Balance.{echo_handle, settle-first, settle-machine}
-use Rattle.mum_port.proofs.BoxParts.{taking-is}
-use Rattle.mum_port.proofs.Closing.{Puts-live, stage_by-live}
-use Rattle.mum_port.proofs.Course.{did_of, first_handle, handle_part, passes_handle, post, read_part, session_handle, take_part, voice, write_part}
-use Rattle.mum_port.proofs.Parcels.{BothTaken, nothing_before, taking-of}
-use Rattle.mum_port.proofs.ReadPart.{closes}
+use Rattle.mum_port.proofs.Common.{◌≡◌, ℕ, ◌+◌, Bool, List, [], ◌++◌, Option, Some, None, refl, sym, ap, subst, ◌∙◌, inl, inr, ⊎_elim, SessionId, LinkFacts, PassFacts, QueueFacts, session_of, PortDid, stray_posts, stray_voices, PortFacts, taking_session, stage_by, PortChain, foreign_count, FindsPostEmpty, FindsVoiceEmpty, LooksWhereItMay, PassesTake, TakesByTurns, TakesInTurn, voice_first_after, DeskItem, Step, PassesFacts, Stage, Live, Ending, Closed, Went, NotDue, Stalled, Worked, Closes}
+use Rattle.mum_port.proofs.{Balance.echo_handle, Balance.settle-first, Balance.settle-machine, BoxParts.taking-is, Closing.Puts-live, Closing.stage_by-live, Course.did_of, Course.first_handle, Course.handle_part, Course.passes_handle, Course.post, Course.read_part, Course.session_handle, Course.take_part, Course.voice, Course.write_part, Parcels.BothTaken, Parcels.nothing_before, Parcels.taking-of, ReadPart.closes}
 
 -- ---- passes
 
-passes-take : (passes after : Option Passes) (did : PortDid) → BothTaken passes did.post did.voice after → PassesTake passes did after
+passes-take : (passes after : Option PassesFacts) (did : PortDid) → BothTaken passes did.post did.voice after → PassesTake passes did after
 passes-take None None did taken = taken
 passes-take None (Some after) did taken = absurd taken
 passes-take (Some passes) None did taken = absurd taken
@@ -34,7 +12,7 @@ passes-take (Some passes) (Some after) did taken = record { slot = taken.0; post
 
 -- ---- who looks
 
--- a port that is live behind a part of a step met no cause in it
+-- a port that is live after a part of a step met no cause in it
 live_goes_on : (went : Went) (stage : Stage) → stage_by went stage ≡ Live → closes went ≡ None
 live_goes_on NotDue stage live = refl
 live_goes_on Stalled stage live = refl
@@ -82,7 +60,7 @@ module _ {L V : Type 0} {facts : L → LinkFacts} {routed : V → ℕ → Sessio
   takes_in_turn = record {
     passes = passes-take old.passes new.passes (did_of c)
         (subst (BothTaken old.passes (post c) (voice c)) (sym passes_end)
-        (subst (λ (s : Option Passes). BothTaken s (post c) (voice c) c.after_take.passes) (passes_handle c) (take_part c).taken));
+        (subst (λ (s : Option PassesFacts). BothTaken s (post c) (voice c) c.after_take.passes) (passes_handle c) (take_part c).taken));
     looks = looks_where_it_may;
     stale = stale_is;
   }
@@ -91,10 +69,10 @@ module _ {L V : Type 0} {facts : L → LinkFacts} {routed : V → ℕ → Sessio
   takes_by_turns = record {
     notice_behind_notice = λ first some.
         let found = (take_part c).notice_behind_notice (first_handle c ∙ first) some in
-        (found.0, subst (FindsVoiceEmpty voices old.passes) (sym passes_end) (subst (λ (s : Option Passes). FindsVoiceEmpty voices s c.after_take.passes) (passes_handle c) found.1));
+        (found.0, subst (FindsVoiceEmpty voices old.passes) (sym passes_end) (subst (λ (s : Option PassesFacts). FindsVoiceEmpty voices s c.after_take.passes) (passes_handle c) found.1));
     voice_behind_voice = λ first some no_post.
         subst (FindsPostEmpty posts old.passes) (sym passes_end)
-        (subst (λ (s : Option Passes). FindsPostEmpty posts s c.after_take.passes) (passes_handle c)
+        (subst (λ (s : Option PassesFacts). FindsPostEmpty posts s c.after_take.passes) (passes_handle c)
         ((take_part c).voice_behind_voice (first_handle c ∙ first) some no_post));
     next = first_end ∙ ((take_part c).next ∙ ap (λ (b : Bool). voice_first_after (post c) (voice c) b) (first_handle c));
   }

@@ -1,47 +1,34 @@
 -- What the parts of a step leave of a port's passes, and of the passes in it.
-use Rattle.std.proofs.Common.{◌≡◌, ℕ, Bool, true, false, List, Option, Some, None, refl, sym, ap, subst, ◌∙◌, inl, inr}
-use Rattle.mum_base.specs.declared.number.Cause.{Cause}
-use Rattle.mum_base.specs.declared.number.SessionId.{SessionId}
-use Rattle.mum_io.specs.Link.{LinkFacts}
-use Rattle.mum_outbox.specs.Calls.{Takes}
-use Rattle.mum_outbox.specs.Facts.{PassFacts, QueueFacts}
-use Rattle.mum_port.specs.Facts.{PortFacts, due_item}
-use Rattle.mum_port.specs.Steps.{CollectsBehind, CollectsPost, DrainsVoice, Handles, Puts, Reads, Settles, TakesParcels, Writes, desk_refused}
-use Rattle.mum_port.specs.Taking.{Collects, Drains, IsPosted, IsVoiced, PassesCollect, PassesDrain, has_taken}
-use Rattle.mum_port.specs.declared.item.DeskItem.{DeskItem}
-use Rattle.mum_port.specs.declared.outbound.Taking.{Taking}
-use Rattle.mum_port.specs.declared.passes.Passes.{Passes}
-use Rattle.mum_port.specs.declared.stage.Stage.{Stage}
-use Rattle.mum_port.specs.declared.stage.Went.{Went}
+use Rattle.mum_port.proofs.Common.{◌≡◌, ℕ, Bool, true, false, List, Option, Some, None, refl, sym, ap, subst, ◌∙◌, inl, inr, Cause, SessionId, LinkFacts, Takes, PassFacts, QueueFacts, PortFacts, due_item, CollectsBehind, CollectsPost, DrainsVoice, Handles, Puts, Reads, Settles, TakesParcels, Writes, desk_refused, Collects, Drains, IsPosted, IsVoiced, PassesCollect, PassesDrain, has_taken, DeskItem, Taking, PassesFacts, Stage, Went}
 
 -- a take leaves the pass on its queue
 Takes-queue : {I : Type 0} (capacity : ℕ) (pass : PassFacts I) (taken : Option I) (after : PassFacts I) → Takes capacity pass taken after → after.queue ≡ pass.queue
 Takes-queue capacity pass (Some item) after takes = ap (λ (p : PassFacts _). p.queue) takes.2
 Takes-queue capacity pass None after takes = ap (λ (p : PassFacts _). p.queue) takes.0
 
-PassesCollect-posted : (posts boxes : List QueueFacts) (session : SessionId) (passes : Passes) (stage : Stage) (took : Taking) (after : Passes) (out : List ℕ) (stage_after : Stage)
+PassesCollect-posted : (posts boxes : List QueueFacts) (session : SessionId) (passes : PassesFacts) (stage : Stage) (took : Taking) (after : PassesFacts) (out : List ℕ) (stage_after : Stage)
     → PassesCollect posts session passes stage took after out stage_after → IsPosted boxes (Some passes) → IsPosted boxes (Some after)
-PassesCollect-posted posts boxes session passes stage took after out stage_after (inl none) known = subst (λ (p : Passes). IsPosted boxes (Some p)) (sym none.0.passes_same) known
+PassesCollect-posted posts boxes session passes stage took after out stage_after (inl none) known = subst (λ (p : PassesFacts). IsPosted boxes (Some p)) (sym none.0.passes_same) known
 PassesCollect-posted posts boxes session passes stage took after out stage_after (inr takes) known =
-    subst (λ (p : Passes). IsPosted boxes (Some p)) (sym takes.after) (λ queue found. Takes-queue _ _ _ _ takes.takes ∙ known queue found)
+    subst (λ (p : PassesFacts). IsPosted boxes (Some p)) (sym takes.after) (λ queue found. Takes-queue _ _ _ _ takes.takes ∙ known queue found)
 
-PassesCollect-voiced : (posts boxes : List QueueFacts) (session : SessionId) (passes : Passes) (stage : Stage) (took : Taking) (after : Passes) (out : List ℕ) (stage_after : Stage)
+PassesCollect-voiced : (posts boxes : List QueueFacts) (session : SessionId) (passes : PassesFacts) (stage : Stage) (took : Taking) (after : PassesFacts) (out : List ℕ) (stage_after : Stage)
     → PassesCollect posts session passes stage took after out stage_after → IsVoiced boxes (Some passes) → IsVoiced boxes (Some after)
-PassesCollect-voiced posts boxes session passes stage took after out stage_after (inl none) known = subst (λ (p : Passes). IsVoiced boxes (Some p)) (sym none.0.passes_same) known
-PassesCollect-voiced posts boxes session passes stage took after out stage_after (inr takes) known = subst (λ (p : Passes). IsVoiced boxes (Some p)) (sym takes.after) known
+PassesCollect-voiced posts boxes session passes stage took after out stage_after (inl none) known = subst (λ (p : PassesFacts). IsVoiced boxes (Some p)) (sym none.0.passes_same) known
+PassesCollect-voiced posts boxes session passes stage took after out stage_after (inr takes) known = subst (λ (p : PassesFacts). IsVoiced boxes (Some p)) (sym takes.after) known
 
-PassesDrain-posted : (voices boxes : List QueueFacts) (session : SessionId) (passes : Passes) (took : Taking) (after : Passes) (out : List ℕ)
+PassesDrain-posted : (voices boxes : List QueueFacts) (session : SessionId) (passes : PassesFacts) (took : Taking) (after : PassesFacts) (out : List ℕ)
     → PassesDrain voices session passes took after out → IsPosted boxes (Some passes) → IsPosted boxes (Some after)
-PassesDrain-posted voices boxes session passes took after out (inl none) known = subst (λ (p : Passes). IsPosted boxes (Some p)) (sym none.passes_same) known
-PassesDrain-posted voices boxes session passes took after out (inr takes) known = subst (λ (p : Passes). IsPosted boxes (Some p)) (sym takes.after) known
+PassesDrain-posted voices boxes session passes took after out (inl none) known = subst (λ (p : PassesFacts). IsPosted boxes (Some p)) (sym none.passes_same) known
+PassesDrain-posted voices boxes session passes took after out (inr takes) known = subst (λ (p : PassesFacts). IsPosted boxes (Some p)) (sym takes.after) known
 
-PassesDrain-voiced : (voices boxes : List QueueFacts) (session : SessionId) (passes : Passes) (took : Taking) (after : Passes) (out : List ℕ)
+PassesDrain-voiced : (voices boxes : List QueueFacts) (session : SessionId) (passes : PassesFacts) (took : Taking) (after : PassesFacts) (out : List ℕ)
     → PassesDrain voices session passes took after out → IsVoiced boxes (Some passes) → IsVoiced boxes (Some after)
-PassesDrain-voiced voices boxes session passes took after out (inl none) known = subst (λ (p : Passes). IsVoiced boxes (Some p)) (sym none.passes_same) known
+PassesDrain-voiced voices boxes session passes took after out (inl none) known = subst (λ (p : PassesFacts). IsVoiced boxes (Some p)) (sym none.passes_same) known
 PassesDrain-voiced voices boxes session passes took after out (inr takes) known =
-    subst (λ (p : Passes). IsVoiced boxes (Some p)) (sym takes.after) (λ queue found. Takes-queue _ _ _ _ takes.takes ∙ known queue found)
+    subst (λ (p : PassesFacts). IsVoiced boxes (Some p)) (sym takes.after) (λ queue found. Takes-queue _ _ _ _ takes.takes ∙ known queue found)
 
-Collects-posted : (posts boxes : List QueueFacts) (session : SessionId) (passes : Option Passes) (stage : Stage) (took : Taking) (after : Option Passes) (out : List ℕ) (stage_after : Stage)
+Collects-posted : (posts boxes : List QueueFacts) (session : SessionId) (passes : Option PassesFacts) (stage : Stage) (took : Taking) (after : Option PassesFacts) (out : List ℕ) (stage_after : Stage)
     → Collects posts session passes stage took after out stage_after → IsPosted boxes passes → IsPosted boxes after
 Collects-posted posts boxes session None stage took None out stage_after collects known = tt
 Collects-posted posts boxes session None stage took (Some after) out stage_after collects known = absurd collects
@@ -49,7 +36,7 @@ Collects-posted posts boxes session (Some passes) stage took None out stage_afte
 Collects-posted posts boxes session (Some passes) stage took (Some after) out stage_after collects known =
     PassesCollect-posted posts boxes session passes stage took after out stage_after collects known
 
-Collects-voiced : (posts boxes : List QueueFacts) (session : SessionId) (passes : Option Passes) (stage : Stage) (took : Taking) (after : Option Passes) (out : List ℕ) (stage_after : Stage)
+Collects-voiced : (posts boxes : List QueueFacts) (session : SessionId) (passes : Option PassesFacts) (stage : Stage) (took : Taking) (after : Option PassesFacts) (out : List ℕ) (stage_after : Stage)
     → Collects posts session passes stage took after out stage_after → IsVoiced boxes passes → IsVoiced boxes after
 Collects-voiced posts boxes session None stage took None out stage_after collects known = tt
 Collects-voiced posts boxes session None stage took (Some after) out stage_after collects known = absurd collects
@@ -57,14 +44,14 @@ Collects-voiced posts boxes session (Some passes) stage took None out stage_afte
 Collects-voiced posts boxes session (Some passes) stage took (Some after) out stage_after collects known =
     PassesCollect-voiced posts boxes session passes stage took after out stage_after collects known
 
-Drains-posted : (voices boxes : List QueueFacts) (session : SessionId) (passes : Option Passes) (took : Taking) (after : Option Passes) (out : List ℕ)
+Drains-posted : (voices boxes : List QueueFacts) (session : SessionId) (passes : Option PassesFacts) (took : Taking) (after : Option PassesFacts) (out : List ℕ)
     → Drains voices session passes took after out → IsPosted boxes passes → IsPosted boxes after
 Drains-posted voices boxes session None took None out drains known = tt
 Drains-posted voices boxes session None took (Some after) out drains known = absurd drains
 Drains-posted voices boxes session (Some passes) took None out drains known = tt
 Drains-posted voices boxes session (Some passes) took (Some after) out drains known = PassesDrain-posted voices boxes session passes took after out drains known
 
-Drains-voiced : (voices boxes : List QueueFacts) (session : SessionId) (passes : Option Passes) (took : Taking) (after : Option Passes) (out : List ℕ)
+Drains-voiced : (voices boxes : List QueueFacts) (session : SessionId) (passes : Option PassesFacts) (took : Taking) (after : Option PassesFacts) (out : List ℕ)
     → Drains voices session passes took after out → IsVoiced boxes passes → IsVoiced boxes after
 Drains-voiced voices boxes session None took None out drains known = tt
 Drains-voiced voices boxes session None took (Some after) out drains known = absurd drains

@@ -1,20 +1,5 @@
 -- What the put and the read of a step leave, by what they did.
-use Rattle.std.proofs.Common.{◌≡◌, ◌≢◌, ℕ, ◌<◌, Bool, true, false, List, [], ◌∷◌, ◌++◌, length, Option, Some, None, refl, sym, ap, subst, ◌∙◌, inl, inr, arith}
-use Rattle.mum_base.specs.declared.number.Cause.{Cause}
-use Rattle.mum_base.specs.declared.number.Cause.TheVariants.{End, LinkFault, FrameTooLong, Rejected, Kicked, Lagged, Memory}
-use Rattle.mum_io.specs.Counts.{Counts, NoneFalls, Rose}
-use Rattle.mum_io.specs.Link.{Consumes, IsAtEnd, Keeps, LinkFacts}
-use Rattle.mum_io.proofs.CountLemmas.{NoneFalls-refl}
-use Rattle.mum_outbox.specs.Facts.{PassFacts}
-use Rattle.mum_port.specs.Did.{desk_after_put, port_after_put}
-use Rattle.mum_port.specs.Facts.{MayRead, PortFacts, due_item}
-use Rattle.mum_port.specs.Linking.{ReadEnded}
-use Rattle.mum_port.specs.Stage.{stage_by}
-use Rattle.mum_port.specs.Steps.{Puts, Reads}
-use Rattle.mum_port.specs.declared.item.DeskItem.{DeskItem}
-use Rattle.mum_port.specs.declared.stage.Stage.{Stage}
-use Rattle.mum_port.specs.declared.stage.Went.{Went}
-use Rattle.mum_port.specs.declared.stage.Went.TheVariants.{NotDue, Stalled, Worked, Closes}
+use Rattle.mum_port.proofs.Common.{◌≡◌, ◌≢◌, ℕ, ◌<◌, Bool, true, false, List, [], ◌∷◌, ◌++◌, length, Option, Some, None, refl, sym, ap, subst, ◌∙◌, inl, inr, arith, Cause, End, LinkFault, FrameTooLong, Rejected, Kicked, Lagged, Memory, Counts, NoneFalls, Rose, Consumes, IsAtEnd, Keeps, LinkFacts, NoneFalls-refl, PassFacts, desk_after_put, port_after_put, MayRead, PortFacts, due_item, ReadEnded, stage_by, Puts, Reads, DeskItem, Stage, Went, NotDue, Stalled, Worked, Closes}
 use Rattle.mum_port.proofs.Links.{Keeps-consumes}
 
 -- for what a part of a step closes its port

@@ -1,23 +1,6 @@
 -- A port that is closed does nothing more in its step but put its farewell.
-use Rattle.std.proofs.Common.{◌≡◌, ℕ, Bool, true, false, IsTrue, List, [], Option, Some, None, refl, sym, ap, ◌∙◌, inl, inr, true≢false, not, length, ◌==◌}
-use Rattle.mum_base.specs.declared.number.SessionId.{SessionId}
-use Rattle.mum_io.specs.Link.{LinkFacts}
-use Rattle.mum_outbox.specs.Facts.{QueueFacts}
-use Rattle.mum_port.specs.Facts.{PortFacts, may_handle, may_write, stage_after_put}
-use Rattle.mum_port.specs.Stage.{is_closed, is_live}
-use Rattle.mum_port.specs.Steps.{CollectsBehind, CollectsPost, DrainsVoice, Handles, Reads, TakesParcels, Writes}
-use Rattle.mum_port.specs.Taking.{has_taken}
-use Rattle.mum_port.specs.declared.item.DeskItem.{DeskItem}
-use Rattle.mum_port.specs.declared.outbound.Taking.{Taking}
-use Rattle.mum_port.specs.declared.stage.Stage.{Stage}
-use Rattle.mum_port.specs.declared.stage.Stage.TheVariants.{Live, Ending, Closed}
-use Rattle.mum_port.specs.declared.stage.Went.{Went}
-use Rattle.mum_port.specs.declared.stage.Went.TheVariants.{NotDue}
-use Rattle.mum_port.proofs.BoxParts.{post_of, taking-is, voice_of}
-use Rattle.mum_port.proofs.Closing.{and-left, live-is}
-use Rattle.mum_port.proofs.HandlePart.{handled_of}
-use Rattle.mum_port.proofs.Parcels.{post_behind, post_taken, voice_taken}
-use Rattle.mum_port.proofs.WritePart.{wrote_of}
+use Rattle.mum_port.proofs.Common.{◌≡◌, ℕ, Bool, true, false, IsTrue, List, [], Option, Some, None, refl, sym, ap, ◌∙◌, inl, inr, true≢false, not, length, ◌==◌, SessionId, LinkFacts, QueueFacts, PortFacts, may_handle, may_write, stage_after_put, is_closed, is_live, CollectsBehind, CollectsPost, DrainsVoice, Handles, Reads, TakesParcels, Writes, has_taken, DeskItem, Taking, Stage, Live, Ending, Closed, Went, NotDue}
+use Rattle.mum_port.proofs.{BoxParts.post_of, BoxParts.taking-is, BoxParts.voice_of, Closing.and-left, Closing.live-is, HandlePart.handled_of, Parcels.post_behind, Parcels.post_taken, Parcels.voice_taken, WritePart.wrote_of}
 
 -- a live port is open
 pub live-open : (stage : Stage) → stage ≡ Live → is_closed stage ≡ false

@@ -1,24 +1,7 @@
 -- Only who is logged in asks for a packet to be heard.
-use Rattle.std.proofs.Common.{◌≡◌, ℕ, Bool, true, false, List, Option, Some, None, Ok, Err, refl, sym, ap, ◌∙◌, subst, true≢false, if◌then◌else◌, ◌==◌, ◌&&◌}
-use Rattle.std.specs.List.{list_any}
-use Rattle.mum_base.specs.declared.number.SessionId.{SessionId}
-use Rattle.mum_fields.specs.Table.{decoded}
-use Rattle.mum_frame.specs.declared.frame.Frame.{Frame}
-use Rattle.mum_frame.specs.declared.kind.TheConstants.{UDP_TUNNEL, VERSION, PING, AUTHENTICATE}
-use Rattle.mum_msg_state.specs.Messages.{ping, version}
-use Rattle.mum_session.specs.Action.{Decoded, action, after_login, bans_action, command_action, commands_after_login, ignore, login_action, ping_action, tree_or_user_action, version_action, voice_action}
-use Rattle.mum_session.specs.Heard.{command_heard, login_heard}
-use Rattle.mum_session.specs.Machine.{Machine, is_rejected, session_of}
-use Rattle.mum_session.specs.declared.action.Action.{Action}
-use Rattle.mum_session.specs.declared.action.Action.TheVariants.{Voice, Bans}
-use Rattle.mum_session.specs.declared.action.TheConstants.{BAN_LIST}
-use Rattle.mum_session.specs.declared.command.Asked.{Asked}
-use Rattle.mum_session.specs.declared.heard.Heard.{Heard}
-use Rattle.mum_session.specs.declared.heard.Heard.TheVariants as heard
-use Rattle.mum_base.specs.declared.outcome.Reason.TheVariants.{Gone, NotRead}
-use Rattle.mum_port.specs.Did.{action_of}
-use Rattle.mum_port.specs.Turn.{RoutesPacket}
+use Rattle.mum_port.proofs.Common.{◌≡◌, ℕ, Bool, true, false, List, Option, Some, None, Ok, Err, refl, sym, ap, ◌∙◌, subst, true≢false, if◌then◌else◌, ◌==◌, ◌&&◌, list_any, SessionId, decoded, Frame, UDP_TUNNEL, VERSION, PING, AUTHENTICATE, ping, version, Decoded, action, after_login, bans_action, command_action, commands_after_login, ignore, login_action, ping_action, tree_or_user_action, version_action, voice_action, command_heard, login_heard, Machine, is_rejected, session_of, Action, Voice, Bans, BAN_LIST, Asked, Heard, Gone, NotRead, action_of, RoutesPacket}
 use Rattle.mum_port.proofs.HandlePart.{RoutesOf}
+use Rattle.mum_session.specs.declared.heard.Heard.TheVariants as heard
 
 abbrev is_voice : Action → Bool
 is_voice (Voice packet) = true

@@ -1,38 +1,6 @@
 -- A step tried each of its parts where it might.
-use Rattle.std.proofs.Common.{◌≡◌, ◌≢◌, ℕ, false, IsTrue, List, [], ◌∷◌, ◌++◌, Option, Some, None, length, refl, sym, ap, subst, ◌∙◌, inl, inr, arith, ◌⊎◌, ◌==◌}
-use Rattle.std.proofs.lemmas.List.{append-nil}
-use Rattle.std.proofs.lemmas.Bool.{ne_eqb}
-use Rattle.mum_base.specs.declared.number.Cause.{Cause}
-use Rattle.mum_base.specs.declared.number.Cause.TheVariants.{End, LinkFault, FrameTooLong, Rejected, Kicked, Lagged, Memory}
-use Rattle.mum_base.specs.declared.number.SessionId.{SessionId}
-use Rattle.mum_frame.specs.declared.frame.Frame.{Frame}
-use Rattle.mum_frame.specs.Frame.{HasFrame, HasNoFrame}
-use Rattle.mum_frame.proofs.Headers.{HasNoFrame-above_limit}
-use Rattle.mum_io.specs.Counts.{Counts, Rose}
-use Rattle.mum_io.specs.Link.{LinkFacts}
-use Rattle.mum_outbox.specs.Facts.{PassFacts, QueueFacts}
-use Rattle.mum_port.specs.Did.{action_of, echo_of, port_after_put, queued, stage_once_put}
-use Rattle.mum_port.specs.Facts.{MayRead, PortFacts, may_handle, may_write, taking_session}
-use Rattle.mum_port.specs.Linking.{ReadEnded}
-use Rattle.mum_port.specs.Stage.{after_word, is_closed}
-use Rattle.mum_port.specs.Steps.{PortChain, Reads}
-use Rattle.mum_port.specs.Turn.{FindsPostEmpty, FindsVoiceEmpty, HasLooked, HasRead}
-use Rattle.mum_port.specs.declared.item.DeskItem.{DeskItem}
-use Rattle.mum_port.specs.declared.passes.Passes.{Passes}
-use Rattle.mum_port.specs.declared.port.Step.{Step}
-use Rattle.mum_port.specs.declared.stage.Stage.{Stage}
-use Rattle.mum_port.specs.declared.stage.Stage.TheVariants.{Live}
-use Rattle.mum_port.specs.declared.stage.Went.{Went}
-use Rattle.mum_port.specs.declared.stage.Went.TheVariants.{NotDue, Stalled, Worked, Closes}
-use Rattle.mum_port.proofs.Balance.{all_sent, echo_handle, kept_put}
-use Rattle.mum_port.proofs.BoxParts.{taking-is}
-use Rattle.mum_port.proofs.Course.{Way, as_open, bytes_written, did_of, first_handle, frame, goes_on, handle_closes, handle_part, item, passes_handle, port_put, read_part, session_handle, stage_handle, take_part, took, way, write_part}
-use Rattle.mum_port.proofs.Ends.{may_same, rose_read, rose_write}
-use Rattle.mum_port.proofs.HandlePart.{HandleShows, HandledOrNot}
-use Rattle.mum_port.proofs.Parcels.{nothing_before, taking-of}
-use Rattle.mum_port.proofs.PassTakes.{passes_end}
-use Rattle.mum_port.proofs.ReadPart.{ReadShows, closes, read-shows, stage_by-open, took_of}
-use Rattle.mum_port.proofs.WritePart.{WriteShows}
+use Rattle.mum_port.proofs.Common.{◌≡◌, ◌≢◌, ℕ, false, IsTrue, List, [], ◌∷◌, ◌++◌, Option, Some, None, length, refl, sym, ap, subst, ◌∙◌, inl, inr, arith, ◌⊎◌, ◌==◌, append-nil, ne_eqb, Cause, End, LinkFault, FrameTooLong, Rejected, Kicked, Lagged, Memory, SessionId, Frame, HasFrame, HasNoFrame, HasNoFrame-above_limit, Counts, Rose, LinkFacts, PassFacts, QueueFacts, action_of, echo_of, port_after_put, queued, stage_once_put, MayRead, PortFacts, may_handle, may_write, taking_session, ReadEnded, after_word, is_closed, PortChain, Reads, FindsPostEmpty, FindsVoiceEmpty, HasLooked, HasRead, DeskItem, PassesFacts, Step, Stage, Live, Went, NotDue, Stalled, Worked, Closes}
+use Rattle.mum_port.proofs.{Balance.all_sent, Balance.echo_handle, Balance.kept_put, BoxParts.taking-is, Course.Way, Course.as_open, Course.bytes_written, Course.did_of, Course.first_handle, Course.frame, Course.goes_on, Course.handle_closes, Course.handle_part, Course.item, Course.passes_handle, Course.port_put, Course.read_part, Course.session_handle, Course.stage_handle, Course.take_part, Course.took, Course.way, Course.write_part, Ends.may_same, Ends.rose_read, Ends.rose_write, HandlePart.HandleShows, HandlePart.HandledOrNot, Parcels.nothing_before, Parcels.taking-of, PassTakes.passes_end, ReadPart.ReadShows, ReadPart.closes, ReadPart.read-shows, ReadPart.stage_by-open, ReadPart.took_of, WritePart.WriteShows}
 
 -- ---- the parts
 
@@ -93,7 +61,7 @@ frame_tried routed kept frame (Closes Kicked) has none shows = absurd shows
 frame_tried routed kept frame (Closes Lagged) has none shows = absurd shows
 frame_tried routed kept frame (Closes Memory) has none shows = refl
 
--- a live port stays live behind its put
+-- a live port stays live after its put
 put-live : (put waiting : Option DeskItem) (stage : Stage) → stage ≡ Live → stage_once_put put waiting stage ≡ Live
 put-live None waiting stage live = live
 put-live (Some item) (Some waits) stage live = live
@@ -181,10 +149,10 @@ module _ {L V : Type 0} {facts : L → LinkFacts} {routed : V → ℕ → Sessio
   has_looked session looks silent none =
       let may = might_look session looks silent none in record {
         post = λ no_post gave.
-            subst (FindsPostEmpty posts old.passes) (sym (passes_end c)) (subst (λ (s : Option Passes). FindsPostEmpty posts s c.after_take.passes) (passes_handle c)
+            subst (FindsPostEmpty posts old.passes) (sym (passes_end c)) (subst (λ (s : Option PassesFacts). FindsPostEmpty posts s c.after_take.passes) (passes_handle c)
             ((take_part c).post_empty_so session may no_post (λ first. gave (sym (first_handle c) ∙ first))));
         voice = λ no_voice gave.
-            subst (FindsVoiceEmpty voices old.passes) (sym (passes_end c)) (subst (λ (s : Option Passes). FindsVoiceEmpty voices s c.after_take.passes) (passes_handle c)
+            subst (FindsVoiceEmpty voices old.passes) (sym (passes_end c)) (subst (λ (s : Option PassesFacts). FindsVoiceEmpty voices s c.after_take.passes) (passes_handle c)
             ((take_part c).voice_empty_so session may no_voice (λ first. gave (sym (first_handle c) ∙ first))));
       }
 

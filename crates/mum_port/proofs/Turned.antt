@@ -1,35 +1,10 @@
 -- The sentences of a step, of the chain of its parts.
-use Rattle.std.proofs.Common.{◌≡◌, ℕ, ◌+◌, ◌≤◌, IsTrue, List, ◌++◌, length, Option, Some, None, is_none, not, refl, sym, ap, subst, ◌∙◌, ◌⊎◌, inl, inr, arith, length-append}
-use Rattle.std.proofs.lemmas.Bool.{leb-true}
-use Rattle.mum_base.specs.declared.number.SessionId.{SessionId}
-use Rattle.mum_frame.specs.declared.frame.Frame.{Frame}
-use Rattle.mum_io.specs.Link.{LinkFacts}
-use Rattle.mum_outbox.specs.Facts.{PassFacts, QueueFacts}
-use Rattle.mum_outbox.specs.declared.parcel.PostParcel.{PostParcel}
-use Rattle.mum_outbox.specs.declared.parcel.VoiceParcel.{VoiceParcel}
-use Rattle.mum_session.specs.Machine.{Machine, session_of}
-use Rattle.mum_port.specs.Did.{PortDid, action_of, asked_item, echo_of, port_after_put, post_bytes, queued, voice_bytes}
-use Rattle.mum_port.specs.Facts.{PortFacts, may_handle, waiting_after}
-use Rattle.mum_port.specs.Stage.{is_live}
-use Rattle.mum_port.specs.Steps.{PortChain}
-use Rattle.mum_port.specs.Turn.{EndsInTurn, HandlesInTurn, KeepsWithin, LooksWhereItMay, PortTurn, PutsInTurn, RoutesPacket, WritesInTurn}
-use Rattle.mum_port.specs.declared.item.DeskItem.{DeskItem}
-use Rattle.mum_port.specs.declared.port.Step.{Step}
-use Rattle.mum_port.specs.declared.port.TheConstants.{UNWRITTEN_LIMIT}
-use Rattle.mum_port.proofs.Balance.{reads_in_turn, settle-machine, writes_in_turn}
-use Rattle.mum_port.proofs.BoxParts.{taking-is}
-use Rattle.mum_port.proofs.Course.{Way, did_of, frame, handle_part, machine_read, machine_write, port_put, read_part, take_part, way, write_part}
-use Rattle.mum_port.proofs.Ends.{falls_all, may_before, settled_in_turn}
-use Rattle.mum_port.proofs.HandlePart.{RoutesOf}
-use Rattle.mum_port.proofs.Idle.{and-right, did_something, is_idle, too_long}
-use Rattle.mum_port.proofs.ReadPart.{closes, put-due, put-pass}
-use Rattle.mum_port.proofs.PassTakes.{looks_where_it_may, takes_by_turns, takes_in_turn}
-use Rattle.mum_port.proofs.Speaking.{routes_packet}
-use Rattle.mum_port.proofs.Trying.{has_handled, has_looked, has_read, has_written}
+use Rattle.mum_port.proofs.Common.{◌≡◌, ℕ, ◌+◌, ◌≤◌, IsTrue, List, ◌++◌, length, Option, Some, None, is_none, not, refl, sym, ap, subst, ◌∙◌, ◌⊎◌, inl, inr, arith, length-append, leb-true, SessionId, Frame, LinkFacts, PassFacts, QueueFacts, PostFacts, VoiceFacts, Machine, session_of, PortDid, action_of, asked_item, echo_of, port_after_put, post_bytes, queued, voice_bytes, PortFacts, may_handle, waiting_after, is_live, PortChain, EndsInTurn, HandlesInTurn, KeepsWithin, LooksWhereItMay, PortTurn, PutsInTurn, RoutesPacket, WritesInTurn, DeskItem, Step, UNWRITTEN_LIMIT}
+use Rattle.mum_port.proofs.{Balance.reads_in_turn, Balance.settle-machine, Balance.writes_in_turn, BoxParts.taking-is, Course.Way, Course.did_of, Course.frame, Course.handle_part, Course.machine_read, Course.machine_write, Course.port_put, Course.read_part, Course.take_part, Course.way, Course.write_part, Ends.falls_all, Ends.may_before, Ends.settled_in_turn, HandlePart.RoutesOf, Idle.and-right, Idle.did_something, Idle.is_idle, Idle.too_long, ReadPart.closes, ReadPart.put-due, ReadPart.put-pass, PassTakes.looks_where_it_may, PassTakes.takes_by_turns, PassTakes.takes_in_turn, Speaking.routes_packet, Trying.has_handled, Trying.has_looked, Trying.has_read, Trying.has_written}
 
 -- ---- the bound on what is kept
 
--- one more frame behind at most the limit, or behind nothing
+-- one more frame after at most the limit, or after nothing
 bounded : (limit frame_limit old more wrote kept unsaid : ℕ) → old + more ≡ wrote + (kept + unsaid) → more ≤ frame_limit → ((more ≡ 0) ⊎ (old ≤ limit)) → old ≤ limit + frame_limit → kept ≤ limit + frame_limit
 bounded limit frame_limit old more wrote kept unsaid sum few (inl none) within = omega (arith, sum, few, none, within)
 bounded limit frame_limit old more wrote kept unsaid sum few (inr little) within = omega (arith, sum, few, little, within)
@@ -50,8 +25,8 @@ module _ {L : Type 0} where
   more_or_little old new did (Some one) is handles looks = inr (little_unwritten (port_after_put did.put old) (handles.allowed one is))
   more_or_little old new did None is handles (inl unlooked) =
       inl (ap (λ (f : Option Frame). length (echo_of (action_of old.machine f) ++ (post_bytes (session_of old.machine.stage) did.post ++ voice_bytes (session_of old.machine.stage) did.voice))) is
-      ∙ (ap (λ (p : Option PostParcel). length (post_bytes (session_of old.machine.stage) p ++ voice_bytes (session_of old.machine.stage) did.voice)) unlooked.0.0
-      ∙ ap (λ (v : Option VoiceParcel). length (voice_bytes (session_of old.machine.stage) v)) unlooked.0.1))
+      ∙ (ap (λ (p : Option PostFacts). length (post_bytes (session_of old.machine.stage) p ++ voice_bytes (session_of old.machine.stage) did.voice)) unlooked.0.0
+      ∙ ap (λ (v : Option VoiceFacts). length (voice_bytes (session_of old.machine.stage) v)) unlooked.0.1))
   more_or_little old new did None is handles (inr looks) =
       inr (subst (λ (l : List ℕ). length l ≤ UNWRITTEN_LIMIT) (sym (taking-is old looks.0 looks.1).1) (omega arith))
 

@@ -1,10 +1,5 @@
 -- Frames that are to be written one after another.
-use Rattle.std.proofs.Common.{◌≡◌, ℕ, ◌+◌, ◌<◌, List, [], ◌∷◌, ◌++◌, length, ap, sym, subst, ◌∙◌, append_assoc, arith, length-append}
-use Rattle.std.specs.List.{concat}
-use Rattle.std.proofs.lemmas.List.{append-nil}
-use Rattle.std.proofs.lemmas.List.Elements.{All-append, All-cons, All-nil}
-use Rattle.std.proofs.lemmas.List.Folds.{concat-append}
-use Rattle.mum_port.specs.Outgoing.{HaveBytes, unwritten}
+use Rattle.mum_port.proofs.Common.{◌≡◌, ℕ, ◌+◌, ◌<◌, List, [], ◌∷◌, ◌++◌, length, ap, sym, subst, ◌∙◌, append_assoc, arith, length-append, concat, append-nil, All-append, All-cons, All-nil, concat-append, HaveBytes, unwritten}
 
 -- a frame that is written after all others
 unwritten-last : (front : List ℕ) (wires : List (List ℕ)) (wire : List ℕ) → unwritten front (wires ++ wire ∷ []) ≡ unwritten front wires ++ wire
@@ -12,7 +7,7 @@ unwritten-last front wires wire =
     ap (λ (l : List ℕ). front ++ l) (concat-append wires (wire ∷ []) ∙ ap (λ (l : List ℕ). concat wires ++ l) (append-nil wire))
     ∙ sym (append_assoc front (concat wires) wire)
 
--- the frames after a push, as it goes over room that was taken first
+-- the frames after a push, as it goes through room that was taken first
 pushed : (old mid new : List (List ℕ)) (wire : List ℕ) → new ≡ mid ++ wire ∷ [] → mid ≡ old → new ≡ old ++ wire ∷ []
 pushed old mid new wire push same = push ∙ ap (λ (l : List (List ℕ)). l ++ wire ∷ []) same
 

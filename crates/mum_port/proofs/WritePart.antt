@@ -1,17 +1,6 @@
 -- What the write of a step leaves, by the bytes that were written.
-use Rattle.std.proofs.Common.{◌≡◌, ◌≢◌, ℕ, ◌<◌, IsTrue, List, [], ◌∷◌, ◌++◌, length, refl, sym, ap, subst, ◌∙◌, inl, inr, arith}
-use Rattle.mum_base.specs.declared.number.Cause.TheVariants.{End, LinkFault, FrameTooLong, Rejected, Kicked, Lagged, Memory}
-use Rattle.mum_io.specs.Counts.{NoneFalls, Rose}
-use Rattle.mum_io.specs.Link.{Appends, Keeps, LinkFacts}
-use Rattle.mum_io.proofs.CountLemmas.{NoneFalls-refl}
-use Rattle.mum_port.specs.Facts.{PortFacts, may_write}
-use Rattle.mum_port.specs.Linking.{WriteEnded}
-use Rattle.mum_port.specs.Stage.{stage_by}
-use Rattle.mum_port.specs.Steps.{Writes}
-use Rattle.mum_port.specs.declared.stage.Went.{Went}
-use Rattle.mum_port.specs.declared.stage.Went.TheVariants.{NotDue, Stalled, Worked, Closes}
-use Rattle.mum_port.proofs.Links.{Keeps-appends}
-use Rattle.mum_port.proofs.ReadPart.{Keeps-same}
+use Rattle.mum_port.proofs.Common.{◌≡◌, ◌≢◌, ℕ, ◌<◌, IsTrue, List, [], ◌∷◌, ◌++◌, length, refl, sym, ap, subst, ◌∙◌, inl, inr, arith, End, LinkFault, FrameTooLong, Rejected, Kicked, Lagged, Memory, NoneFalls, Rose, Appends, Keeps, LinkFacts, NoneFalls-refl, PortFacts, may_write, WriteEnded, stage_by, Writes, Went, NotDue, Stalled, Worked, Closes}
+use Rattle.mum_port.proofs.{Links.Keeps-appends, ReadPart.Keeps-same}
 
 some_wrote : (wrote : List ℕ) → 0 < length wrote → wrote ≢ []
 some_wrote [] some is = absurd (omega (arith, some))

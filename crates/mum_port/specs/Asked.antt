@@ -1,13 +1,9 @@
 -- What the commands on the desk are.
 use Rattle.std.specs.Prelude.{◌≡◌, ◌⊎◌, ℕ, List, ⊤}
 use Rattle.mum_rules_user.specs.declared.message.UserMessage.TheVariants.{Leave}
-use Rattle.mum_session.specs.Action.{action}
-use Rattle.mum_session.specs.Machine.{Machine}
-use Rattle.mum_session.specs.declared.action.Action.{Action}
-use Rattle.mum_session.specs.declared.action.Action.TheVariants.{Ask}
-use Rattle.mum_session.specs.declared.command.Asked.{Asked}
-use Rattle.mum_session.specs.declared.command.Asked.TheVariants.{User}
-use Rattle.mum_session.specs.declared.command.Command.{Command}
+use Rattle.mum_session.specs.{Action.action, Machine.Machine}
+use Rattle.mum_session.specs.declared.{action.Action.Action, action.Action.TheVariants.Ask, command.Asked.Asked}
+use Rattle.mum_session.specs.declared.command.{Asked.TheVariants.User, Command.Command}
 
 -- a frame of a connection asks for a command of this
 pub record IsAskedFor (what : Asked) : Type 0 where

@@ -2,22 +2,16 @@
 use Rattle.std.specs.Prelude.{◌==◌, ℕ, Bool, false, ◌&&◌, not, nat_le, is_none, IsTrue, List, [], length, Option, Some, None, if◌then◌else◌}
 use Rattle.std.specs.Option.{option_map}
 use Rattle.mum_base.specs.declared.number.SessionId.{SessionId}
-use Rattle.mum_frame.specs.Frame.{HasNoFrame, TooLong}
-use Rattle.mum_frame.specs.Stream.{FramerState}
-use Rattle.mum_rules_user.specs.declared.message.UserMessage.TheVariants as about
-use Rattle.mum_session.specs.declared.action.Action.{Action}
-use Rattle.mum_session.specs.declared.action.Action.TheVariants.{Ask, Bans}
-use Rattle.mum_session.specs.declared.command.Asked.TheVariants.{User}
-use Rattle.mum_session.specs.declared.command.Command.{Command}
+use Rattle.mum_frame.specs.{Frame.HasNoFrame, Frame.TooLong, Stream.FramerState}
+use Rattle.mum_session.specs.declared.action.Action.{Action, TheVariants.Ask, TheVariants.Bans}
+use Rattle.mum_session.specs.declared.command.{Asked.TheVariants.User, Command.Command}
 use Rattle.mum_session.specs.Machine.{Machine, fresh_with_bans, session_of}
-use Rattle.mum_port.specs.Stage.{after_word, is_closed, is_live}
-use Rattle.mum_port.specs.declared.item.DeskItem.{DeskItem}
-use Rattle.mum_port.specs.declared.item.DeskItem.TheVariants as items
-use Rattle.mum_port.specs.declared.port.TheConstants.{UNWRITTEN_LIMIT}
-use Rattle.mum_port.specs.declared.passes.Passes.{Passes}
-use Rattle.mum_port.specs.declared.stage.Farewell.TheVariants.{Leave, LastWord}
-use Rattle.mum_port.specs.declared.stage.Stage.{Stage}
+use Rattle.mum_port.specs.{Stage.after_word, Stage.is_closed, Stage.is_live, Passes.PassesFacts}
+use Rattle.mum_port.specs.declared.{item.DeskItem.DeskItem, port.TheConstants.UNWRITTEN_LIMIT}
+use Rattle.mum_port.specs.declared.stage.{Farewell.TheVariants.Leave, Farewell.TheVariants.LastWord, Stage.Stage}
 use Rattle.mum_port.specs.declared.stage.Stage.TheVariants.{Live, Closed}
+use Rattle.mum_rules_user.specs.declared.message.UserMessage.TheVariants as about
+use Rattle.mum_port.specs.declared.item.DeskItem.TheVariants as items
 
 pub record PortFacts (L : Type 0) : Type 0 where
   pub link : L
@@ -28,7 +22,7 @@ pub record PortFacts (L : Type 0) : Type 0 where
   pub waiting : Option DeskItem
   -- the bytes that are to be written
   pub out : List ℕ
-  pub passes : Option Passes
+  pub passes : Option PassesFacts
   -- it looks at its voice box before its post box: what it took last was a notice
   pub voice_first : Bool
   pub stage : Stage
@@ -89,7 +83,8 @@ module _ {L : Type 0} where
   -- it may handle a whole frame: it is live, awaits no reply, nothing of it waits for the desk, and it has little to write
   abbrev pub may_handle : PortFacts L → Bool
   may_handle port =
-      is_live port.stage && (not port.machine.awaits && (is_none port.waiting && nat_le (length port.out) UNWRITTEN_LIMIT))
+      is_live port.stage
+      && (not port.machine.awaits && (is_none port.waiting && nat_le (length port.out) UNWRITTEN_LIMIT))
 
   -- it may read: it might handle a frame, and keeps none and no length above the limit
   pub record MayRead (port : PortFacts L) : Type 0 where

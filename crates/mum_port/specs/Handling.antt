@@ -4,13 +4,10 @@ use Rattle.mum_base.specs.declared.number.Cause.TheVariants.{FrameTooLong, Memor
 use Rattle.mum_base.specs.declared.number.SessionId.{SessionId}
 use Rattle.mum_frame.specs.declared.frame.Frame.{Frame}
 use Rattle.mum_frame.specs.Frame.{HasFrame, HasNoFrame, IsFrame, TooLong, frame_spelling}
-use Rattle.mum_session.specs.Action.{action, after_frame}
-use Rattle.mum_session.specs.Machine.{Machine, session_of}
-use Rattle.mum_session.specs.declared.action.Action.{Action}
-use Rattle.mum_session.specs.declared.action.Action.TheVariants.{Voice, Echo}
+use Rattle.mum_session.specs.{Action.action, Action.after_frame, Machine.Machine, Machine.session_of}
+use Rattle.mum_session.specs.declared.action.Action.{Action, TheVariants.Voice, TheVariants.Echo}
 use Rattle.mum_port.specs.Facts.{item_of, waiting_after}
-use Rattle.mum_port.specs.declared.item.DeskItem.{DeskItem}
-use Rattle.mum_port.specs.declared.stage.Went.{Went}
+use Rattle.mum_port.specs.declared.{item.DeskItem.DeskItem, stage.Went.Went}
 use Rattle.mum_port.specs.declared.stage.Went.TheVariants.{Stalled, Worked, Closes}
 
 -- where what a frame asks for goes: what waits for the desk, what is to be written, and the router
@@ -29,7 +26,8 @@ module _ {V : Type 0} (routed : V → ℕ → SessionId → List ℕ → V → T
   -- item waits for the desk
   abbrev pub Acts : ℕ → Option SessionId → Action → Sinks V → Went → Sinks V → Type 0
   Acts connection session (Voice packet) old went new =
-      (went ≡ Worked) × (new ≡ record old { router = new.router }) × Routes connection session packet old.router new.router
+      (went ≡ Worked) × (new ≡ record old { router = new.router })
+      × Routes connection session packet old.router new.router
   Acts connection session (Echo wire) old went new =
       (new ≡ record old { out = new.out })
       × (((went ≡ Worked) × (new.out ≡ old.out ++ wire)) ⊎ ((went ≡ Closes Memory) × (new.out ≡ old.out)))
@@ -37,21 +35,25 @@ module _ {V : Type 0} (routed : V → ℕ → SessionId → List ℕ → V → T
       (went ≡ Worked) × (new ≡ record old { waiting = waiting_after (item_of connection session others) old.waiting })
 
   -- the machine takes a frame, and what the frame asks for is done
-  pub record HandlesFrame (machine : Machine) (frame : Frame) (old : Sinks V) (went : Went) (machine_after : Machine) (new : Sinks V) : Type 0 where
+  pub record HandlesFrame (machine : Machine) (frame : Frame) (old : Sinks V) (went : Went) (machine_after : Machine)
+      (new : Sinks V) : Type 0 where
     pub taken : machine_after ≡ after_frame machine frame.kind frame.payload
     pub acts : Acts machine.connection (session_of machine.stage) (action machine frame.kind frame.payload) old went new
 
   -- nothing changes: memory ran out
-  pub record FindsNoMemory (machine : Machine) (old : Sinks V) (went : Went) (machine_after : Machine) (new : Sinks V) : Type 0 where
+  pub record FindsNoMemory (machine : Machine) (old : Sinks V) (went : Went) (machine_after : Machine)
+      (new : Sinks V) : Type 0 where
     pub went_so : went ≡ Closes Memory
     pub machine_same : machine_after ≡ machine
     pub same : new ≡ old
 
   abbrev pub TakesFrame : Machine → Frame → Sinks V → Went → Machine → Sinks V → Type 0
-  TakesFrame machine frame old went machine_after new = HandlesFrame machine frame old went machine_after new ⊎ FindsNoMemory machine old went machine_after new
+  TakesFrame machine frame old went machine_after new =
+      HandlesFrame machine frame old went machine_after new ⊎ FindsNoMemory machine old went machine_after new
 
   -- the first frame that is kept is handled
-  pub record HandlesFirst (machine : Machine) (kept : List ℕ) (old : Sinks V) (went : Went) (machine_after : Machine) (kept_after : List ℕ) (new : Sinks V) : Type 0 where
+  pub record HandlesFirst (machine : Machine) (kept : List ℕ) (old : Sinks V) (went : Went) (machine_after : Machine)
+      (kept_after : List ℕ) (new : Sinks V) : Type 0 where
     pub frame : Frame
     pub whole : IsFrame frame
     pub first : kept ≡ frame_spelling frame ++ kept_after
@@ -62,7 +64,8 @@ module _ {V : Type 0} (routed : V → ℕ → SessionId → List ℕ → V → T
       HandlesFirst machine kept old went machine_after kept_after new ⊎ FindsNoMemory machine old went machine_after new
 
   -- no frame is kept and nothing changes, but that the port closes where a length above the limit is kept
-  pub record FindsNoFrame (machine : Machine) (kept : List ℕ) (old : Sinks V) (went : Went) (machine_after : Machine) (kept_after : List ℕ) (new : Sinks V) : Type 0 where
+  pub record FindsNoFrame (machine : Machine) (kept : List ℕ) (old : Sinks V) (went : Went) (machine_after : Machine)
+      (kept_after : List ℕ) (new : Sinks V) : Type 0 where
     pub why : ((went ≡ Stalled) × HasNoFrame kept × ¬ TooLong kept) ⊎ ((went ≡ Closes FrameTooLong) × TooLong kept)
     pub machine_same : machine_after ≡ machine
     pub kept_same : kept_after ≡ kept

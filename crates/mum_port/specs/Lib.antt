@@ -5,6 +5,7 @@ pub mod Handling
 pub mod Life
 pub mod Linking
 pub mod Outgoing
+pub mod Passes
 pub mod Replies
 pub mod Stage
 pub mod Steps

@@ -1,30 +1,23 @@
 -- What happens to a port, one event after another.
 use Rattle.std.specs.Prelude.{◌≡◌, ℕ, List, [], ◌∷◌, Option, option_to_list}
 use Rattle.std.specs.List.{flat_map}
-use Rattle.mum_base.specs.declared.number.Cause.{Cause}
-use Rattle.mum_base.specs.declared.number.SessionId.{SessionId}
-use Rattle.mum_base.specs.declared.reply.ReplyEnd.{ReplyEnd}
-use Rattle.mum_frame.specs.declared.frame.Frame.{Frame}
+use Rattle.mum_base.specs.declared.{number.Cause.Cause, number.SessionId.SessionId, reply.ReplyEnd.ReplyEnd}
 use Rattle.mum_io.specs.Link.{LinkFacts}
+use Rattle.mum_frame.specs.declared.frame.Frame.{Frame}
 use Rattle.mum_outbox.specs.Facts.{PassFacts, QueueFacts}
 use Rattle.mum_session.specs.Machine.{Machine}
-use Rattle.mum_port.specs.Did.{PortDid, asked_item, queued}
-use Rattle.mum_port.specs.Facts.{PortFacts, leave}
-use Rattle.mum_port.specs.Replies.{Answers, Lags}
-use Rattle.mum_port.specs.Turn.{PortTurn}
-use Rattle.mum_port.specs.declared.item.DeskItem.{DeskItem}
-use Rattle.mum_port.specs.declared.item.DeskItem.TheVariants as items
-use Rattle.mum_port.specs.declared.port.Step.{Step}
-use Rattle.mum_port.specs.declared.passes.Passes.{Passes}
-use Rattle.mum_port.specs.declared.stage.Farewell.TheVariants.{LastWord, Done}
-use Rattle.mum_port.specs.declared.stage.Stage.{Stage}
+use Rattle.mum_port.specs.{Did.PortDid, Did.asked_item, Did.queued, Facts.PortFacts, Facts.leave}
+use Rattle.mum_port.specs.{Replies.Answers, Replies.Lags, Turn.PortTurn, Passes.PassesFacts}
+use Rattle.mum_port.specs.declared.{item.DeskItem.DeskItem, port.Step.Step}
+use Rattle.mum_port.specs.declared.stage.{Farewell.TheVariants.LastWord, Farewell.TheVariants.Done, Stage.Stage}
 use Rattle.mum_port.specs.declared.stage.Stage.TheVariants.{Closed}
+use Rattle.mum_port.specs.declared.item.DeskItem.TheVariants as items
 
 -- a reply as a port hears it: how its wait ends, the bytes that its client gets, and the passes that it gives
 pub record Heard : Type 0 where
   pub end : ReplyEnd
   pub wire : List ℕ
-  pub passes : Option Passes
+  pub passes : Option PassesFacts
 
 -- a step that did this, with the machine that the connection was before it; a reply, or a lag, and for what the port closed
 -- at it, if it did

@@ -3,8 +3,7 @@ use Rattle.std.specs.Prelude.{◌≡◌, ℕ, ◌<◌, IsTrue, List, [], ◌++�
 use Rattle.mum_base.specs.declared.number.Cause.TheVariants.{End, LinkFault, Memory}
 use Rattle.mum_io.specs.Counts.{Counts, NoneFalls, Rose}
 use Rattle.mum_io.specs.Link.{Appends, Consumes, IsAtEnd, Keeps, LinkFacts}
-use Rattle.mum_port.specs.declared.stage.Went.{Went}
-use Rattle.mum_port.specs.declared.stage.Went.TheVariants.{Stalled, Worked, Closes}
+use Rattle.mum_port.specs.declared.stage.Went.{Went, TheVariants.Stalled, TheVariants.Worked, TheVariants.Closes}
 
 -- how a read ended: what it took and what was lost of it for memory, the counts, and what was left to be read
 abbrev pub ReadEnded : Went → List ℕ → List ℕ → Counts → Counts → Option (List ℕ) → Type 0
@@ -23,7 +22,7 @@ WriteEnded (Closes LinkFault) wrote old new = (wrote ≡ []) × Rose old.faults 
 WriteEnded others wrote old new = ⊥
 
 module _ {L : Type 0} (facts : L → LinkFacts) where
-  -- a read: the bytes that it took stand after those that were kept, but for what was lost for memory
+  -- a read: the bytes that it took are after those that were kept, but for what was lost for memory
   pub record ReadsLink (old : L) (kept : List ℕ) (went : Went) (new : L) (kept_after : List ℕ) : Type 0 where
     pub took : List ℕ
     pub lost : List ℕ

@@ -3,9 +3,8 @@ use Rattle.std.specs.Prelude.{◌≡◌, ℕ, ◌<◌, List, [], ◌++◌, lengt
 use Rattle.std.specs.List.{concat}
 use Rattle.mum_io.specs.Link.{Appends}
 use Rattle.mum_io.specs.declared.link.PollWrite.{PollWrite}
+use Rattle.mum_port.specs.declared.front.Held.{Held, TheVariants.Nothing, TheVariants.Wire, TheVariants.Voice}
 use Rattle.mum_io.specs.declared.link.PollWrite.TheVariants as written
-use Rattle.mum_port.specs.declared.front.Held.{Held}
-use Rattle.mum_port.specs.declared.front.Held.TheVariants.{Nothing, Wire, Voice}
 
 -- the frame at the front: none, one with bytes of its own, or the one in the room for voice
 abbrev pub frame_at_front : Held → List ℕ → List ℕ

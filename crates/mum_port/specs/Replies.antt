@@ -1,18 +1,15 @@
 -- What a reply of the control owner, and a lag, leave of a port.
 use Rattle.std.specs.Prelude.{◌≡◌, ◌⊎◌, ℕ, true, false, List, ◌++◌, Option, Some, None}
-use Rattle.mum_base.specs.declared.number.Cause.{Cause}
-use Rattle.mum_base.specs.declared.number.Cause.TheVariants as causes
-use Rattle.mum_base.specs.declared.reply.ReplyEnd.{ReplyEnd}
+use Rattle.mum_base.specs.declared.{number.Cause.Cause, reply.ReplyEnd.ReplyEnd}
 use Rattle.mum_base.specs.declared.reply.ReplyEnd.TheVariants.{Joined, Decided, Rejected}
 use Rattle.mum_io.specs.Link.{LinkFacts}
 use Rattle.mum_session.specs.Machine.{answered}
-use Rattle.mum_port.specs.Facts.{PortFacts}
-use Rattle.mum_port.specs.Stage.{is_closed, stage_after_reply}
-use Rattle.mum_port.specs.Steps.{ClosesFor}
-use Rattle.mum_port.specs.declared.passes.Passes.{Passes}
+use Rattle.mum_port.specs.{Facts.PortFacts, Stage.is_closed, Stage.stage_after_reply, Steps.ClosesFor}
+use Rattle.mum_port.specs.Passes.{PassesFacts}
+use Rattle.mum_base.specs.declared.number.Cause.TheVariants as causes
 
 -- a login that was accepted gives passes, or none where its slot has no boxes
-abbrev pub passes_after : ReplyEnd → Option Passes → Option Passes → Option Passes
+abbrev pub passes_after : ReplyEnd → Option PassesFacts → Option PassesFacts → Option PassesFacts
 passes_after (Joined session slot) given passes = given
 passes_after Decided given passes = passes
 passes_after Rejected given passes = passes
@@ -29,7 +26,8 @@ module _ {L : Type 0} (facts : L → LinkFacts) where
     pub same : new ≡ old
 
   -- an open one ends its wait, and is to write the bytes after all else
-  pub record TakesReply (end : ReplyEnd) (wire : List ℕ) (passes : Option Passes) (old : PortFacts L) (closed : Option Cause) (new : PortFacts L) : Type 0 where
+  pub record TakesReply (end : ReplyEnd) (wire : List ℕ) (passes : Option PassesFacts) (old : PortFacts L)
+      (closed : Option Cause) (new : PortFacts L) : Type 0 where
     pub was_open : is_closed old.stage ≡ false
     pub so : closed ≡ None
     pub rest : new ≡ record (with_reply end old) {
@@ -39,12 +37,13 @@ module _ {L : Type 0} (facts : L → LinkFacts) where
     }
 
   -- or closes, since there is no memory for the bytes
-  pub record ClosesAtReply (end : ReplyEnd) (old : PortFacts L) (closed : Option Cause) (new : PortFacts L) : Type 0 where
+  pub record ClosesAtReply (end : ReplyEnd) (old : PortFacts L) (closed : Option Cause)
+      (new : PortFacts L) : Type 0 where
     pub was_open : is_closed old.stage ≡ false
     pub so : closed ≡ Some causes.Memory
     pub closes : ClosesFor facts causes.Memory (with_reply end old) new
 
-  abbrev pub Answers : ReplyEnd → List ℕ → Option Passes → PortFacts L → Option Cause → PortFacts L → Type 0
+  abbrev pub Answers : ReplyEnd → List ℕ → Option PassesFacts → PortFacts L → Option Cause → PortFacts L → Type 0
   Answers end wire passes old closed new =
       StaysClosed old closed new ⊎ (TakesReply end wire passes old closed new ⊎ ClosesAtReply end old closed new)
 

@@ -1,17 +1,13 @@
 -- How far a port has come, and how a part of its step ended.
 use Rattle.std.specs.Prelude.{Bool, true, false, Option, Some, None, if◌then◌else◌}
-use Rattle.mum_base.specs.declared.number.Cause.{Cause}
-use Rattle.mum_base.specs.declared.number.Cause.TheVariants as causes
-use Rattle.mum_base.specs.declared.reply.ReplyEnd.{ReplyEnd}
-use Rattle.mum_base.specs.declared.reply.ReplyEnd.TheVariants as ends
-use Rattle.mum_port.specs.declared.stage.Farewell.{Farewell}
-use Rattle.mum_port.specs.declared.stage.Farewell.TheVariants.{Leave, LastWord, Done}
-use Rattle.mum_port.specs.declared.stage.Parting.{Parting}
-use Rattle.mum_port.specs.declared.stage.Parting.TheVariants as partings
-use Rattle.mum_port.specs.declared.stage.Stage.{Stage}
+use Rattle.mum_base.specs.declared.{number.Cause.Cause, reply.ReplyEnd.ReplyEnd}
+use Rattle.mum_port.specs.declared.stage.Farewell.{Farewell, TheVariants.Leave, TheVariants.LastWord, TheVariants.Done}
+use Rattle.mum_port.specs.declared.stage.{Parting.Parting, Stage.Stage}
 use Rattle.mum_port.specs.declared.stage.Stage.TheVariants.{Live, Ending, Closed}
-use Rattle.mum_port.specs.declared.stage.Went.{Went}
-use Rattle.mum_port.specs.declared.stage.Went.TheVariants.{Worked, Closes}
+use Rattle.mum_port.specs.declared.stage.Went.{Went, TheVariants.Worked, TheVariants.Closes}
+use Rattle.mum_base.specs.declared.number.Cause.TheVariants as causes
+use Rattle.mum_base.specs.declared.reply.ReplyEnd.TheVariants as ends
+use Rattle.mum_port.specs.declared.stage.Parting.TheVariants as partings
 
 abbrev pub is_live : Stage → Bool
 is_live Live = true
@@ -58,7 +54,8 @@ parting_cause partings.Kicked = causes.Kicked
 
 -- one that ends closes once it has nothing to write
 abbrev pub settled_where : Bool → Stage → Stage
-settled_where nothing_unwritten (Ending parting) = if nothing_unwritten then closed_for (parting_cause parting) else Ending parting
+settled_where nothing_unwritten (Ending parting) =
+    if nothing_unwritten then closed_for (parting_cause parting) else Ending parting
 settled_where nothing_unwritten others = others
 
 -- for what a port closed, if it did

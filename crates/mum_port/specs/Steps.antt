@@ -1,23 +1,17 @@
 -- What each part of a port's step does, and the whole step as a chain of them.
 use Rattle.std.specs.Prelude.{◌≡◌, ◌⊎◌, ◌==◌, ◌||◌, ◌&&◌, ◌+◌, ℕ, Bool, true, false, not, IsTrue, is_some, List, [], ◌∷◌, length, Option, Some, None, ◌++◌}
 use Rattle.std.specs.List.{list_any}
-use Rattle.mum_base.specs.declared.number.Cause.{Cause}
-use Rattle.mum_base.specs.declared.number.SessionId.{SessionId}
+use Rattle.mum_base.specs.declared.number.{Cause.Cause, SessionId.SessionId}
 use Rattle.mum_io.specs.Link.{LinkFacts}
-use Rattle.mum_outbox.specs.Calls.{one_more}
-use Rattle.mum_outbox.specs.Facts.{PassFacts, QueueFacts}
+use Rattle.mum_outbox.specs.{Calls.one_more, Facts.PassFacts, Facts.QueueFacts}
 use Rattle.mum_port.specs.Facts.{MayRead, PortFacts, due_item, empty_framer, may_handle, may_write, stage_after_put, taking_session}
 use Rattle.mum_port.specs.Handling.{HandlesKept, Sinks}
 use Rattle.mum_port.specs.Linking.{ReadsLink, ShutsLink, WritesLink}
 use Rattle.mum_port.specs.Stage.{after_word, cause_of, closed_for, has_worked, is_closed, settled_where, stage_by}
 use Rattle.mum_port.specs.Taking.{Collects, Drains, foreign_count, has_taken}
-use Rattle.mum_port.specs.declared.item.DeskItem.{DeskItem}
-use Rattle.mum_port.specs.declared.outbound.Taking.{Taking}
+use Rattle.mum_port.specs.declared.{item.DeskItem.DeskItem, outbound.Taking.Taking, port.Step.Step, stage.Stage.Stage}
+use Rattle.mum_port.specs.declared.stage.Went.{Went, TheVariants.NotDue}
 use Rattle.mum_port.specs.declared.outbound.Taking.TheVariants as taking
-use Rattle.mum_port.specs.declared.port.Step.{Step}
-use Rattle.mum_port.specs.declared.stage.Stage.{Stage}
-use Rattle.mum_port.specs.declared.stage.Went.{Went}
-use Rattle.mum_port.specs.declared.stage.Went.TheVariants.{NotDue}
 
 -- ---- the desk
 
@@ -49,7 +43,8 @@ desk_refused (Some item) desk = with_refused desk
 
 module _ {L : Type 0} where
   -- what was due is on the desk: what waited waits no more, or the farewell goes on
-  pub record PutsItem (old : PortFacts L) (desk : PassFacts DeskItem) (put : Bool) (new : PortFacts L) (after : PassFacts DeskItem) : Type 0 where
+  pub record PutsItem (old : PortFacts L) (desk : PassFacts DeskItem) (put : Bool) (new : PortFacts L)
+      (after : PassFacts DeskItem) : Type 0 where
     pub item : DeskItem
     pub due : due_item old ≡ Some item
     pub so : put ≡ true
@@ -57,7 +52,8 @@ module _ {L : Type 0} where
     pub left : new ≡ record old { waiting = None; stage = stage_after_put old.waiting old.stage }
 
   -- nothing was due, or the desk was full
-  pub record PutsNothing (old : PortFacts L) (desk : PassFacts DeskItem) (put : Bool) (new : PortFacts L) (after : PassFacts DeskItem) : Type 0 where
+  pub record PutsNothing (old : PortFacts L) (desk : PassFacts DeskItem) (put : Bool) (new : PortFacts L)
+      (after : PassFacts DeskItem) : Type 0 where
     pub so : put ≡ false
     pub refused : after ≡ desk_refused (due_item old) desk
     pub same : new ≡ old
@@ -84,59 +80,74 @@ module _ {L : Type 0} where
     pub so : took ≡ taking.NotDue
     pub same : new ≡ old
 
-  -- one take from the post box; behind a notice the voice box comes first
-  pub record CollectsOne (posts : List QueueFacts) (old : PortFacts L) (took : Taking) (new : PortFacts L) : Type 0 where
+  -- one take from the post box; after a notice the voice box comes first
+  pub record CollectsOne (posts : List QueueFacts) (old : PortFacts L) (took : Taking)
+      (new : PortFacts L) : Type 0 where
     pub session : SessionId
     pub allowed : taking_session old ≡ Some session
     pub taken : Collects posts session old.passes old.stage took new.passes new.out new.stage
-    pub left : new ≡ record old { passes = new.passes; out = new.out; stage = new.stage; voice_first = has_taken took || old.voice_first }
+    pub left : new
+        ≡ record old {
+          passes = new.passes;
+          out = new.out;
+          stage = new.stage;
+          voice_first = has_taken took
+              || old.voice_first;
+        }
 
   abbrev pub CollectsPost : List QueueFacts → PortFacts L → Taking → PortFacts L → Type 0
   CollectsPost posts old took new = TakesNothing old took new ⊎ CollectsOne posts old took new
 
-  -- one take from the voice box; behind a voice packet the post box comes first
+  -- one take from the voice box; after a voice packet the post box comes first
   pub record DrainsOne (voices : List QueueFacts) (old : PortFacts L) (took : Taking) (new : PortFacts L) : Type 0 where
     pub session : SessionId
     pub allowed : taking_session old ≡ Some session
     pub taken : Drains voices session old.passes took new.passes new.out
-    pub left : new ≡ record old { passes = new.passes; out = new.out; voice_first = not (has_taken took) && old.voice_first }
+    pub left : new
+        ≡ record old { passes = new.passes; out = new.out; voice_first = not (has_taken took) && old.voice_first }
 
   abbrev pub DrainsVoice : List QueueFacts → PortFacts L → Taking → PortFacts L → Type 0
   DrainsVoice voices old took new = TakesNothing old took new ⊎ DrainsOne voices old took new
 
   -- its post box comes first, and then its voice box, where it still might look at it
-  pub record TakesPostFirst (posts voices : List QueueFacts) (old : PortFacts L) (posted heard : Taking) (new : PortFacts L) : Type 0 where
+  pub record TakesPostFirst (posts voices : List QueueFacts) (old : PortFacts L) (posted heard : Taking)
+      (new : PortFacts L) : Type 0 where
     pub turn : old.voice_first ≡ false
     pub mid : PortFacts L
     pub collects : CollectsPost posts old posted mid
     pub drains : DrainsVoice voices mid heard new
 
-  -- behind a voice packet of the same step the post box is not looked at
+  -- after a voice packet of the same step the post box is not looked at
   abbrev pub CollectsBehind : List QueueFacts → Bool → PortFacts L → Taking → PortFacts L → Type 0
   CollectsBehind posts true old took new = (took ≡ taking.NotDue) × (new ≡ old)
   CollectsBehind posts false old took new = CollectsPost posts old took new
 
   -- its voice box comes first, and where that gave nothing its post box
-  pub record TakesVoiceFirst (posts voices : List QueueFacts) (old : PortFacts L) (posted heard : Taking) (new : PortFacts L) : Type 0 where
+  pub record TakesVoiceFirst (posts voices : List QueueFacts) (old : PortFacts L) (posted heard : Taking)
+      (new : PortFacts L) : Type 0 where
     pub turn : old.voice_first ≡ true
     pub mid : PortFacts L
     pub drains : DrainsVoice voices old heard mid
     pub collects : CollectsBehind posts (has_taken heard) mid posted new
 
   abbrev pub TakesParcels : List QueueFacts → List QueueFacts → PortFacts L → Taking → Taking → PortFacts L → Type 0
-  TakesParcels posts voices old posted heard new = TakesPostFirst posts voices old posted heard new ⊎ TakesVoiceFirst posts voices old posted heard new
+  TakesParcels posts voices old posted heard new =
+      TakesPostFirst posts voices old posted heard new ⊎ TakesVoiceFirst posts voices old posted heard new
 
   -- where what a frame of a port asks for goes, with the router
   abbrev pub sinks : {V : Type 0} → PortFacts L → V → Sinks V
   sinks port router = record { waiting = port.waiting; out = port.out; router = router }
 
   -- a frame was looked for, where one might be handled
-  pub record HandlesOne {V : Type 0} (routed : V → ℕ → SessionId → List ℕ → V → Type 0) (old : PortFacts L) (router : V) (went : Went) (new : PortFacts L) (router_after : V) : Type 0 where
+  pub record HandlesOne {V : Type 0} (routed : V → ℕ → SessionId → List ℕ → V → Type 0) (old : PortFacts L) (router : V)
+      (went : Went) (new : PortFacts L) (router_after : V) : Type 0 where
     pub allowed : IsTrue (may_handle old)
-    pub handled : HandlesKept routed old.machine old.framer.kept (sinks old router) went new.machine new.framer.kept (sinks new router_after)
+    pub handled : HandlesKept routed old.machine old.framer.kept (sinks old router) went new.machine new.framer.kept
+        (sinks new router_after)
     pub left : new ≡ record old { machine = new.machine; framer = new.framer; waiting = new.waiting; out = new.out; stage = stage_by went old.stage }
 
-  abbrev pub Handles : {V : Type 0} → (V → ℕ → SessionId → List ℕ → V → Type 0) → PortFacts L → V → Went → PortFacts L → V → Type 0
+  abbrev pub Handles : {V : Type 0} → (V → ℕ → SessionId → List ℕ → V → Type 0) → PortFacts L → V → Went → PortFacts L
+      → V → Type 0
   Handles routed old router went new router_after =
       (IsNotDue (IsTrue (may_handle old)) old went new × (router_after ≡ router)) ⊎ HandlesOne routed old router went new router_after
 
@@ -165,7 +176,8 @@ module _ {L : Type 0} (facts : L → LinkFacts) where
     pub rest : new ≡ record old { link = new.link; framer = empty_framer; out = []; stage = closed_for cause }
 
   -- the port closed in this step
-  pub record ClosesNow (was_closed : Bool) (old : PortFacts L) (closed : Option Cause) (new : PortFacts L) : Type 0 where
+  pub record ClosesNow (was_closed : Bool) (old : PortFacts L) (closed : Option Cause)
+      (new : PortFacts L) : Type 0 where
     pub cause : Cause
     pub was_open : was_closed ≡ false
     pub by : cause_of (settled old.out old.stage) ≡ Some cause
@@ -173,7 +185,8 @@ module _ {L : Type 0} (facts : L → LinkFacts) where
     pub closes : ClosesFor cause old new
 
   -- it did not
-  pub record StaysAsItIs (was_closed : Bool) (old : PortFacts L) (closed : Option Cause) (new : PortFacts L) : Type 0 where
+  pub record StaysAsItIs (was_closed : Bool) (old : PortFacts L) (closed : Option Cause)
+      (new : PortFacts L) : Type 0 where
     pub why : (was_closed ≡ true) ⊎ (cause_of (settled old.out old.stage) ≡ None)
     pub so : closed ≡ None
     pub same : new ≡ old
@@ -191,7 +204,8 @@ step_of put went posted heard closed = record {
 
 module _ {L V : Type 0} (facts : L → LinkFacts) (routed : V → ℕ → SessionId → List ℕ → V → Type 0) where
   -- a step as the chain of its parts, with the port between them
-  pub record PortChain (posts voices : List QueueFacts) (old : PortFacts L) (desk : PassFacts DeskItem) (router : V) (step : Step)
+  pub record PortChain (posts voices : List QueueFacts) (old : PortFacts L) (desk : PassFacts DeskItem) (router : V)
+      (step : Step)
       (new : PortFacts L) (desk_after : PassFacts DeskItem) (router_after : V) : Type 0 where
     pub put : Bool
     pub read : Went

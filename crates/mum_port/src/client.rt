@@ -13,7 +13,7 @@ use mum_session::{Action, Asked, Command, Session};
 use std::alloc::Global;
 use std::marker::Model;
 
-/// The session machine of a connection, and the numbers of the connection and of its worker.
+// The session machine of a connection, and the numbers of the connection and of its worker.
 #[derive(Drop)]
 pub(crate) struct Client {
     connection: u32,
@@ -33,7 +33,7 @@ impl Model for Client {
 }
 
 impl Client {
-    /// A connection that sent nothing yet, and may send lists of bans.
+    // A connection that sent nothing yet, and may send lists of bans.
     pub(crate) fn new(connection: u32, worker: u8) -> Client
         ensures { result ≡ fresh_with_bans connection worker }
     {
@@ -50,21 +50,21 @@ impl Client {
         self.connection
     }
 
-    /// The session of the connection, where it is logged in.
+    // The session of the connection, where it is logged in.
     pub(crate) fn session(&self) -> Option<SessionId>
         ensures { result ≡ session_of self.now.stage }
     {
         self.session.session()
     }
 
-    /// Whether a reply is awaited.
+    // Whether a reply is awaited.
     pub(crate) fn awaits(&self) -> bool
         ensures { result ≡ self.now.awaits }
     {
         self.session.awaits_reply()
     }
 
-    /// What a frame asks for.
+    // What a frame asks for.
     pub(crate) fn frame(&mut self, alloc: Global, frame: Frame) -> Result<Action, OutOfMemory>
         requires { self.old.awaits ≡ false }
         ensures action { IfOk result (λ a. a ≡ action self.old frame.kind frame.payload) }
@@ -75,14 +75,14 @@ impl Client {
         self.session.frame(alloc, frame)
     }
 
-    /// The wait for a reply ends.
+    // The wait for a reply ends.
     pub(crate) fn answered(&mut self, end: ReplyEnd)
         ensures { self.new ≡ answered end self.old }
     {
         self.session.answered(end);
     }
 
-    /// That the connection goes.
+    // That the connection goes.
     pub(crate) fn leave(&self) -> Command
         ensures { result ≡ leave self.now }
     {

@@ -8,7 +8,7 @@ use crate::stage::Stage;
 use mum_outbox::{BoxPass, Desk, Offered};
 use std::sync::Wait;
 
-/// Offers what waits, if something does. A full desk gives it back.
+// Offers what waits, if something does. A full desk gives it back.
 pub(crate) fn put_waiting<R: Wait>(
     rt: &R,
     desk: &Desk<DeskItem>,
@@ -30,7 +30,7 @@ pub(crate) fn put_waiting<R: Wait>(
     }
 }
 
-/// Offers a word of the farewell. Where the desk is full it is offered again in the next step.
+// Offers a word of the farewell. Where the desk is full it is offered again in the next step.
 pub(crate) fn put_word<R: Wait>(
     rt: &R,
     desk: &Desk<DeskItem>,

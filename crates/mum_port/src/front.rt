@@ -11,16 +11,14 @@ use byteorder::{BigEndian, ByteOrder};
 use mum_base::Octets;
 use mum_frame::HEADER_LENGTH;
 use mum_frame::kind::UDP_TUNNEL;
+use mum_voice::COPY_LIMIT;
 use std::marker::Model;
 use std::mem::replace;
 
-/// The most bytes of a copy of a voice packet.
-pub const VOICE_LIMIT: usize = 1025;
-
 /// The most bytes of a frame of a voice packet: the header, and the copy.
-pub const VOICE_FRAME_LIMIT: usize = 1031;
+pub const VOICE_FRAME_LIMIT: usize = HEADER_LENGTH + COPY_LIMIT;
 
-/// Where the frame at the front lies.
+// Where the frame at the front lies.
 #[derive(Drop)]
 pub(crate) enum Held {
     Nothing,
@@ -29,8 +27,8 @@ pub(crate) enum Held {
     Voice,
 }
 
-/// What is left of the frame that is being written. A frame of a voice packet has room of its own here,
-/// so that it takes no memory.
+// What is left of the frame that is being written. A frame of a voice packet has room of its own here,
+// so that it takes no memory.
 #[derive(Drop)]
 pub(crate) struct Front {
     held: Held,
@@ -71,7 +69,7 @@ fn append(frame: &mut ArrayVec<u8, VOICE_FRAME_LIMIT>, part: &[u8])
 
 // The frame of a voice packet.
 fn voice_frame(packet: &[u8]) -> ArrayVec<u8, VOICE_FRAME_LIMIT>
-    requires { length packet.now ≤ VOICE_LIMIT }
+    requires { length packet.now ≤ COPY_LIMIT }
     ensures { result.items ≡ spelling_of UDP_TUNNEL packet.now }
 {
     let mut header = [0; HEADER_LENGTH];
@@ -84,7 +82,7 @@ fn voice_frame(packet: &[u8]) -> ArrayVec<u8, VOICE_FRAME_LIMIT>
 }
 
 impl Front {
-    /// Nothing is being written.
+    // Nothing is being written.
     pub(crate) fn new() -> Front
         ensures { result ≡ [] }
     {
@@ -95,14 +93,14 @@ impl Front {
         }
     }
 
-    /// What is left of it.
+    // What is left of it.
     pub(crate) fn as_slice(&self) -> &[u8]
         ensures { result.now ≡ self.now }
     {
         &bytes_of(&self.held, &self.voice)[self.written..]
     }
 
-    /// This frame is written next.
+    // This frame is written next.
     pub(crate) fn hold(&mut self, wire: Octets)
         ensures { self.new ≡ wire }
     {
@@ -110,9 +108,9 @@ impl Front {
         drop(replace(&mut self.held, Held::Wire(wire)));
     }
 
-    /// The frame of a voice packet is written next.
+    // The frame of a voice packet is written next.
     pub(crate) fn hold_voice(&mut self, packet: &[u8])
-        requires { length packet.now ≤ VOICE_LIMIT }
+        requires { length packet.now ≤ COPY_LIMIT }
         ensures { self.new ≡ spelling_of UDP_TUNNEL packet.now }
     {
         self.written = 0;
@@ -120,7 +118,7 @@ impl Front {
         drop(replace(&mut self.held, Held::Voice));
     }
 
-    /// The first bytes were written. A frame of which none is left gives its memory back.
+    // The first bytes were written. A frame of which none is left gives its memory back.
     pub(crate) fn pass(&mut self, count: usize)
         requires { count ≤ length self.old }
         ensures { self.new ≡ drop count self.old }

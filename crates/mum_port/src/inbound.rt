@@ -20,7 +20,7 @@ use mum_io::{Link, PollRead};
 use mum_session::Action;
 use std::alloc::Global;
 
-/// Reads once, and keeps what came.
+// Reads once, and keeps what came.
 pub(crate) fn read<L: Link>(link: &mut L, framer: &mut Framer, buf: &mut [u8]) -> Went
     requires { 0 < length buf.old }
     ensures { ReadsLink L.facts link.old framer.old.kept result
@@ -146,7 +146,7 @@ fn handle_whole<V: VoiceRouter>(
     }
 }
 
-/// Handles the first frame that is kept, if one is whole.
+// Handles the first frame that is kept, if one is whole.
 pub(crate) fn handle<V: VoiceRouter>(
     alloc: Global,
     client: &mut Client,

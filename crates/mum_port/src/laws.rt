@@ -15,7 +15,7 @@ ghost use Rattle.mum_port.specs.Facts.{PortFacts, new_port};
 ghost use Rattle.mum_port.specs.Life.{AreUnanswered, Event, Lives, Steps, bytes_queued, bytes_taken, bytes_written, frames_handled, items_asked, items_put, words_said};
 ghost use Rattle.mum_port.specs.Stage.{is_closed};
 
-use crate::front::{VOICE_FRAME_LIMIT, VOICE_LIMIT};
+use crate::front::VOICE_FRAME_LIMIT;
 use crate::port::UNWRITTEN_LIMIT;
 use crate::router::VoiceRouter;
 use mum_io::Link;
@@ -23,7 +23,6 @@ use mum_io::Link;
 /// The numbers that definitions name.
 pub fn numbers()
     ensures unwritten { UNWRITTEN_LIMIT ≡ 65536 }
-    ensures voice { VOICE_LIMIT ≡ 1025 }
     ensures frame { VOICE_FRAME_LIMIT ≡ 1031 }
 {}
 
@@ -56,7 +55,7 @@ pub fn bytes_are_written_in_order<L: Link, V: VoiceRouter>()
         × (is_closed port.stage ≡ false → rest ≡ port.out) }
 {}
 
-/// Each command and each list of bans is put on the desk once, in order; behind all of them come one Leave and
+/// Each command and each list of bans is put on the desk once, in order; after all of them come one Leave and
 /// then one `Closed`, and nothing else.
 pub fn the_desk_gets_each_item_once<L: Link, V: VoiceRouter>()
     ensures { (connection worker : ℕ) (link : L) (events : List Event) (port : PortFacts L) →
@@ -65,7 +64,7 @@ pub fn the_desk_gets_each_item_once<L: Link, V: VoiceRouter>()
         × (items_asked events ≡ commands ++ option_to_list port.waiting) }
 {}
 
-/// A connection that waits for a reply behind a frame has asked for something that is put on the desk: its command,
+/// A connection that waits for a reply after a frame has asked for something that is put on the desk: its command,
 /// or the list of bans that its session sent.
 pub fn each_wait_has_an_item()
     ensures { (machine : Machine) (frame : Frame) →
@@ -73,7 +72,7 @@ pub fn each_wait_has_an_item()
         (item : DeskItem) × (asked_item machine (Some frame) ≡ Some item) }
 {}
 
-/// Behind a frame that asks for a command, or brings a list of bans, no frame is handled before a reply comes.
+/// After a frame that asks for a command, or brings a list of bans, no frame is handled before a reply comes.
 pub fn a_command_is_answered_before_the_next_frame<L: Link, V: VoiceRouter>()
     ensures { (old mid port : PortFacts L) (machine : Machine) (did : PortDid) (item : DeskItem)
         (events : List Event) → Steps L.facts V.routed old machine did mid →

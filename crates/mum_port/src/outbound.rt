@@ -5,14 +5,15 @@ ghost use Rattle.mum_port.specs.Linking.{WritesLink};
 ghost use Rattle.mum_port.specs.Taking.{Collects, Drains, HearsParcel, IsPassOf, IsPosted, IsVoiced, PostsParcel, PassesCollect, PassesDrain, foreign_count, has_taken};
 
 use crate::outgoing::Outgoing;
-use crate::passes::Passes;
+use crate::passes::{Passes, note_of_copy, note_of_notice, note_parcel};
 use crate::stage::{Parting, Stage, Went};
 use mum_base::{Cause, SessionId};
 use mum_io::{Link, PollWrite};
-use mum_outbox::{PostBox, PostParcel, VoiceBox, VoiceParcel};
+use mum_parcel::{PostBox, PostParcel, VoiceBox, VoiceParcel};
+use mum_published::Naming;
 use std::sync::Wait;
 
-/// What a look into a box came to.
+// What a look into a box came to.
 #[derive(Clone, Copy)]
 pub(crate) enum Taking {
     /// The box was not looked into.
@@ -26,14 +27,14 @@ pub(crate) enum Taking {
 }
 
 impl Taking {
-    /// Whether a parcel was taken.
+    // Whether a parcel was taken.
     pub(crate) fn took(self) -> bool
         ensures { result ≡ has_taken self }
     {
         matches!(self, Taking::Own | Taking::Foreign)
     }
 
-    /// How many parcels for another session were taken.
+    // How many parcels for another session were taken.
     pub(crate) fn stale(self) -> u32
         ensures count { result ≡ foreign_count self }
         ensures one { result ≤ 1 }
@@ -47,11 +48,21 @@ impl Taking {
 
 // A parcel that was taken from the post box is written, where it is for this session. After the last one
 // the port ends.
-fn post(parcel: PostParcel, session: SessionId, out: &mut Outgoing, stage: &mut Stage) -> Taking
+fn post<N: Naming>(
+    parcel: PostParcel<N>,
+    session: SessionId,
+    out: &mut Outgoing,
+    stage: &mut Stage,
+) -> Taking
     requires { out.old ≡ [] }
     ensures { PostsParcel parcel session result out.new stage.old stage.new }
 {
-    let PostParcel { to, bytes, last } = parcel;
+    let PostParcel {
+        to,
+        bytes,
+        last,
+        ..
+    } = parcel;
     if to != session {
         drop(bytes);
         return Taking::Foreign;
@@ -64,7 +75,7 @@ fn post(parcel: PostParcel, session: SessionId, out: &mut Outgoing, stage: &mut 
 }
 
 // A parcel that was taken from the voice box is written as a frame, where it is for this session.
-fn hear(parcel: &VoiceParcel, session: SessionId, out: &mut Outgoing) -> Taking
+fn hear<N: Naming>(parcel: &VoiceParcel<N>, session: SessionId, out: &mut Outgoing) -> Taking
     requires { out.old ≡ [] }
     ensures { HearsParcel parcel.now session result out.new }
 {
@@ -76,11 +87,11 @@ fn hear(parcel: &VoiceParcel, session: SessionId, out: &mut Outgoing) -> Taking
 }
 
 // Takes one parcel from the post box of the slot, where there is one.
-fn take_post<R: Wait>(
+fn take_post<N: Naming, R: Wait>(
     rt: &R,
-    posts: &[PostBox],
+    posts: &[PostBox<N>],
     session: SessionId,
-    passes: &mut Passes,
+    passes: &mut Passes<N>,
     out: &mut Outgoing,
     stage: &mut Stage,
 ) -> Taking
@@ -93,16 +104,19 @@ fn take_post<R: Wait>(
     };
     match queue.take_as(rt, &mut passes.post) {
         None => Taking::Nothing,
-        Some(parcel) => post(parcel, session, out, stage),
+        Some(parcel) => {
+            note_parcel(&mut passes.told, note_of_notice(&parcel));
+            post(parcel, session, out, stage)
+        }
     }
 }
 
 // Takes one parcel from the voice box of the slot, where there is one.
-fn take_voice<R: Wait>(
+fn take_voice<N: Naming, R: Wait>(
     rt: &R,
-    voices: &[VoiceBox],
+    voices: &[VoiceBox<N>],
     session: SessionId,
-    passes: &mut Passes,
+    passes: &mut Passes<N>,
     out: &mut Outgoing,
 ) -> Taking
     requires empty { out.old ≡ [] }
@@ -114,16 +128,19 @@ fn take_voice<R: Wait>(
     };
     match queue.take_as(rt, &mut passes.voice) {
         None => Taking::Nothing,
-        Some(parcel) => hear(&parcel, session, out),
+        Some(parcel) => {
+            note_parcel(&mut passes.told, note_of_copy(&parcel));
+            hear(&parcel, session, out)
+        }
     }
 }
 
-/// Takes one parcel from its post box, where it has one.
-pub(crate) fn collect<R: Wait>(
+// Takes one parcel from its post box, where it has one.
+pub(crate) fn collect<N: Naming, R: Wait>(
     rt: &R,
-    posts: &[PostBox],
+    posts: &[PostBox<N>],
     session: SessionId,
-    passes: &mut Option<Passes>,
+    passes: &mut Option<Passes<N>>,
     out: &mut Outgoing,
     stage: &mut Stage,
 ) -> Taking
@@ -139,12 +156,12 @@ pub(crate) fn collect<R: Wait>(
     took
 }
 
-/// Takes one parcel from its voice box, where it has one.
-pub(crate) fn drain<R: Wait>(
+// Takes one parcel from its voice box, where it has one.
+pub(crate) fn drain<N: Naming, R: Wait>(
     rt: &R,
-    voices: &[VoiceBox],
+    voices: &[VoiceBox<N>],
     session: SessionId,
-    passes: &mut Option<Passes>,
+    passes: &mut Option<Passes<N>>,
     out: &mut Outgoing,
 ) -> Taking
     requires empty { out.old ≡ [] }
@@ -159,7 +176,7 @@ pub(crate) fn drain<R: Wait>(
     took
 }
 
-/// Writes once.
+// Writes once.
 pub(crate) fn write<L: Link>(link: &mut L, out: &mut Outgoing) -> Went
     requires { 0 < length out.old }
     ensures { WritesLink L.facts link.old out.old result link.new out.new }

@@ -6,9 +6,10 @@ ghost use Rattle.mum_frame.specs.declared.kind.TheConstants.{UDP_TUNNEL};
 ghost use Rattle.mum_io.specs.Link.{Appends, Keeps, PollWriteCounts};
 ghost use Rattle.mum_port.specs.Outgoing.{HaveBytes, WritesFirst, unwritten};
 
-use crate::front::{Front, VOICE_LIMIT};
+use crate::front::Front;
 use mum_base::{Octets, OutOfMemory};
 use mum_io::{Link, PollWrite};
+use mum_voice::COPY_LIMIT;
 use std::alloc::{AllocError, Global};
 use std::collections::VecDeque;
 use std::marker::Model;
@@ -122,7 +123,7 @@ impl Outgoing {
     /// is taken.
     pub fn hold_voice(&mut self, packet: &[u8])
         requires empty { self.old ≡ [] }
-        requires limit { length packet.now ≤ VOICE_LIMIT }
+        requires limit { length packet.now ≤ COPY_LIMIT }
         ensures { self.new ≡ spelling_of UDP_TUNNEL packet.now }
     {
         self.front.hold_voice(packet);

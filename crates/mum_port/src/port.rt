@@ -3,6 +3,7 @@
 ghost use Rattle.std.specs.Prelude.{◌≡◌, ◌<◌, ◌==◌, ◌↔◌, true, IsTrue, [], length};
 ghost use Rattle.mum_port.specs.Did.{PortDid};
 ghost use Rattle.mum_port.specs.Facts.{MayRead, PortFacts, may_handle, new_port, next_word, taking_session};
+ghost use Rattle.mum_port.specs.Passes.{HasTaken, told_by};
 ghost use Rattle.mum_port.specs.Stage.{is_closed, is_gone};
 ghost use Rattle.mum_port.specs.Replies.{Answers, Lags, passes_after};
 ghost use Rattle.mum_port.specs.Steps.{ClosesFor, CollectsPost, DrainsVoice, Handles, PortChain, Puts, Reads, Settles, TakesParcels, TakesVoiceFirst, Writes, step_of};
@@ -22,7 +23,9 @@ use crate::stage::{Farewell, Stage, Went, closed};
 use mum_base::{Cause, Octets, ReplyEnd, SessionId};
 use mum_frame::{Framer, Kept};
 use mum_io::Link;
-use mum_outbox::{BoxPass, Desk, PostBox, VoiceBox};
+use mum_outbox::{BoxPass, Desk};
+use mum_parcel::{PostBox, VoiceBox};
+use mum_published::{Naming, Note};
 use std::alloc::Global;
 use std::marker::Model;
 use std::mem::replace;
@@ -45,19 +48,19 @@ pub struct Step {
 
 /// A connection that was taken in: its link, the machine of its frames, and what it keeps of both ways.
 #[derive(Drop)]
-pub struct Port<L: Link> {
+pub struct Port<L: Link, N: Naming> {
     link: L,
     client: Client,
     framer: Framer,
     waiting: Option<DeskItem>,
     out: Outgoing,
-    passes: Option<Passes>,
+    passes: Option<Passes<N>>,
     /// What it took last was a notice: its voice box comes before its post box.
     voice_first: bool,
     stage: Stage,
 }
 
-impl<L: Link> Model for Port<L> {
+impl<L: Link, N: Naming> Model for Port<L, N> {
     ghost use Rattle.mum_port.specs.Did.{PortDid};
     ghost use Rattle.mum_port.specs.Facts.{PortFacts};
 
@@ -75,9 +78,9 @@ impl<L: Link> Model for Port<L> {
     } };
 }
 
-impl<L: Link> Port<L> {
+impl<L: Link, N: Naming> Port<L, N> {
     /// A connection that was taken in, by its number and that of its worker. It takes no memory.
-    pub fn new(alloc: Global, connection: u32, worker: u8, link: L) -> Port<L>
+    pub fn new(alloc: Global, connection: u32, worker: u8, link: L) -> Port<L, N>
         ensures { result ≡ new_port connection worker link }
     {
         Port {
@@ -203,7 +206,7 @@ impl<L: Link> Port<L> {
     }
 
     // Takes from its post box, where it may.
-    fn collect<R: Wait>(&mut self, rt: &R, posts: &[PostBox]) -> Taking
+    fn collect<R: Wait>(&mut self, rt: &R, posts: &[PostBox<N>]) -> Taking
         requires { IsPosted posts.now self.old.passes }
         ensures { CollectsPost posts.now self.old result self.new }
     {
@@ -223,7 +226,7 @@ impl<L: Link> Port<L> {
     }
 
     // Takes from its voice box, where it may.
-    fn drain<R: Wait>(&mut self, rt: &R, voices: &[VoiceBox]) -> Taking
+    fn drain<R: Wait>(&mut self, rt: &R, voices: &[VoiceBox<N>]) -> Taking
         requires { IsVoiced voices.now self.old.passes }
         ensures { DrainsVoice voices.now self.old result self.new }
     {
@@ -239,8 +242,8 @@ impl<L: Link> Port<L> {
     fn take_voice_first<R: Wait>(
         &mut self,
         rt: &R,
-        posts: &[PostBox],
-        voices: &[VoiceBox],
+        posts: &[PostBox<N>],
+        voices: &[VoiceBox<N>],
     ) -> (Taking, Taking)
         requires turn { self.old.voice_first ≡ true }
         requires posts { IsPosted posts.now self.old.passes }
@@ -257,7 +260,12 @@ impl<L: Link> Port<L> {
 
     // Takes from its boxes, where it may: by turns, so that neither waits for the other. What its post box
     // gave comes first in the answer.
-    fn take<R: Wait>(&mut self, rt: &R, posts: &[PostBox], voices: &[VoiceBox]) -> (Taking, Taking)
+    fn take<R: Wait>(
+        &mut self,
+        rt: &R,
+        posts: &[PostBox<N>],
+        voices: &[VoiceBox<N>],
+    ) -> (Taking, Taking)
         requires posts { IsPosted posts.now self.old.passes }
         requires voices { IsVoiced voices.now self.old.passes }
         ensures { TakesParcels posts.now voices.now self.old result.0 result.1 self.new }
@@ -268,6 +276,18 @@ impl<L: Link> Port<L> {
         let posted = self.collect(rt, posts);
         let heard = self.drain(rt, voices);
         (posted, heard)
+    }
+
+    /// The note of the longest list of edits that came with a parcel, of those that it took for its session. What it
+    /// took is true of beginnings of that list.
+    pub fn told(&self) -> Option<Note>
+        ensures note { result ≡ told_by self.now.passes }
+        ensures taken { HasTaken N.opening self.now.passes }
+    {
+        match &self.passes {
+            Some(passes) => passes.told(),
+            None => None,
+        }
     }
 
     // Its session, where it may look at its boxes.
@@ -327,7 +347,7 @@ impl<L: Link> Port<L> {
         alloc: Global,
         end: ReplyEnd,
         wire: Octets,
-        passes: Option<Passes>,
+        passes: Option<Passes<N>>,
     ) -> Option<Cause>
         ensures { Answers L.facts end wire passes self.old result self.new }
     {
@@ -362,15 +382,15 @@ impl<L: Link> Port<L> {
     /// One step: it puts on the desk what waits, or the next word of its farewell; reads; handles a frame that
     /// it keeps; takes from the post box and from the voice box of its slot; writes; and closes, where it is to.
     /// It does each at most once, and where it may. It looks at its boxes only where it keeps nothing to write:
-    /// behind a notice at its voice box first, so that voice does not wait for notices, nor they for voice.
+    /// after a notice at its voice box first, so that voice does not wait for notices, nor they for voice.
     pub fn step<V: VoiceRouter, R: Wait>(
         &mut self,
         rt: &R,
         alloc: Global,
         desk: &Desk<DeskItem>,
         pass: &mut BoxPass<DeskItem>,
-        posts: &[PostBox],
-        voices: &[VoiceBox],
+        posts: &[PostBox<N>],
+        voices: &[VoiceBox<N>],
         router: &mut V,
         buf: &mut [u8],
     ) -> Step
@@ -400,7 +420,7 @@ impl<L: Link> Port<L> {
 }
 
 // The passes after a reply: a login that was accepted gives some, or none where its slot has no boxes.
-fn take_passes(passes: &mut Option<Passes>, end: ReplyEnd, given: Option<Passes>)
+fn take_passes<N: Naming>(passes: &mut Option<Passes<N>>, end: ReplyEnd, given: Option<Passes<N>>)
     ensures { passes.new ≡ passes_after end given passes.old }
 {
     match end {

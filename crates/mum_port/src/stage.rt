@@ -26,7 +26,7 @@ pub enum Parting {
 }
 
 impl Parting {
-    /// The cause for which the port closes then.
+    // The cause for which the port closes then.
     pub(crate) fn cause(self) -> Cause
         ensures { result ≡ parting_cause self }
     {
@@ -48,7 +48,7 @@ pub enum Stage {
     Closed { cause: Cause, farewell: Farewell },
 }
 
-/// How a part of a step that uses the link or memory ended.
+// How a part of a step that uses the link or memory ended.
 #[derive(Clone, Copy)]
 pub(crate) enum Went {
     /// There was nothing that it might do.
@@ -61,7 +61,7 @@ pub(crate) enum Went {
 }
 
 impl Went {
-    /// Whether it did something.
+    // Whether it did something.
     pub(crate) fn worked(self) -> bool
         ensures { result ≡ has_worked self }
     {
@@ -94,7 +94,7 @@ impl Stage {
         )
     }
 
-    /// The stage after a part of a step: a port that is open closes for the cause that it met.
+    // The stage after a part of a step: a port that is open closes for the cause that it met.
     pub(crate) fn by(self, went: Went) -> Stage
         ensures { result ≡ stage_by went self }
     {
@@ -104,7 +104,7 @@ impl Stage {
         }
     }
 
-    /// The stage after a reply: a login that was rejected is the end of a live port.
+    // The stage after a reply: a login that was rejected is the end of a live port.
     pub(crate) fn answered(self, end: ReplyEnd) -> Stage
         ensures { result ≡ stage_after_reply end self }
     {
@@ -114,7 +114,7 @@ impl Stage {
         }
     }
 
-    /// A port that ends closes once it has nothing to write.
+    // A port that ends closes once it has nothing to write.
     pub(crate) fn settled(self, nothing_unwritten: bool) -> Stage
         ensures { result ≡ settled_where nothing_unwritten self }
     {
@@ -124,7 +124,7 @@ impl Stage {
         }
     }
 
-    /// The stage once the desk has the next word of the farewell.
+    // The stage once the desk has the next word of the farewell.
     pub(crate) fn after_word(self) -> Stage
         ensures { result ≡ after_word self }
     {
@@ -145,7 +145,7 @@ impl Stage {
     }
 }
 
-/// A port that has just closed owes the whole farewell.
+// A port that has just closed owes the whole farewell.
 pub(crate) fn closed(cause: Cause) -> Stage
     ensures { result ≡ closed_for cause }
 {

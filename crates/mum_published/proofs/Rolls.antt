@@ -1,16 +1,5 @@
 -- Which logins are on a roll, as it grows.
-use Rattle.std.proofs.Common.{◌∙◌, ℕ, ◌==◌, Bool, List, [], ◌∷◌, ◌++◌, refl, ap, sym}
-use Rattle.std.specs.Prelude.{◌||◌, ◌&&◌, IsTrue}
-use Rattle.std.specs.List.{list_any}
-use Rattle.std.proofs.Math.Bool.{or-true}
-use Rattle.std.proofs.lemmas.Bool.{eq-eqb}
-use Rattle.std.proofs.lemmas.List.Folds.{list_any-append}
-use mathlib.Core.List.{IsPrefix}
-use Rattle.mum_base.specs.declared.number.SessionId.{SessionId}
-use Rattle.mum_base.specs.declared.reply.ReplyEnd.{ReplyEnd}
-use Rattle.mum_base.specs.declared.reply.ReplyEnd.TheVariants.{Joined, Decided, Rejected}
-use Rattle.mum_published.specs.declared.roll.Login.{Login}
-use Rattle.mum_published.specs.Rolls.{is_admitted, is_on_roll, login, login_of}
+use Rattle.mum_published.proofs.Common.{◌∙◌, ℕ, ◌==◌, Bool, List, [], ◌∷◌, ◌++◌, refl, ap, sym, ◌||◌, ◌&&◌, IsTrue, list_any, or-true, eq-eqb, list_any-append, IsPrefix, SessionId, ReplyEnd, Joined, Decided, Rejected, Login, is_admitted, is_on_roll, login, login_of}
 
 abbrev is_it : ℕ → SessionId → Login → Bool
 is_it connection session one = (one.connection == connection) && (one.session.0 == session.0)
@@ -30,7 +19,7 @@ on_last connection session roll =
     ∙ ap (λ (b : Bool). list_any (is_it connection session) roll || (b || list_any (is_it connection session) [])) (eq-eqb session.0 session.0 refl)
     ∙ or-true (list_any (is_it connection session) roll)
 
--- so it has the login of which a reply tells that goes with it
+-- so it has the login that a reply reports that goes with it
 pub admitted_last : (end : ReplyEnd) (connection : ℕ) (roll : List Login) → IsTrue (is_admitted end connection (roll ++ login_of connection end))
 admitted_last (Joined session slot) connection roll = on_last connection session roll
 admitted_last Decided connection roll = refl

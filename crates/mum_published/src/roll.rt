@@ -15,7 +15,7 @@ pub struct Login {
 /// What was seen of the roll: logins with which it begins, now and at all later times. It has no bytes.
 pub type Roll = Prefix<Login>;
 
-/// Whoever reads how many logins there are adds none.
+// Whoever reads how many logins there are adds none.
 pub(crate) struct NoLogin;
 
 impl Plain<Roll, Login, u64> for NoLogin {

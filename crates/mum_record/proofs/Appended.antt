@@ -1,17 +1,12 @@
 -- Lines that are appended word by word.
-use Rattle.std.proofs.Common.{◌≡◌, ℕ, ◌+◌, ◌<◌, List, [], ◌∷◌, ◌++◌, map, length, get_or, take, refl, sym, ap, ◌∙◌, append_assoc}
-use Rattle.std.proofs.lemmas.List.{append-nil, take_more, flat_map_more}
-use Rattle.std.specs.List.{flat_map}
-use Rattle.mum_record.specs.Words.{line_of_words, behind_word}
-use Rattle.mum_record.specs.Journal.{copy_word, behind_copy}
-use Rattle.mum_record.specs.declared.journal.Marked.{Marked}
+use Rattle.mum_record.proofs.Common.{◌≡◌, ℕ, ◌+◌, ◌<◌, List, [], ◌∷◌, ◌++◌, map, length, get_or, take, refl, sym, ap, ◌∙◌, append_assoc, append-nil, take_more, flat_map_more, flat_map, line_of_words, behind_word, copy_word, behind_copy, Marked}
 
 -- a line of a first word and others
 first_and : (first : List ℕ) (words : List (List ℕ)) → line_of_words (first ∷ words) ≡ first ++ flat_map behind_word words
 first_and first [] = sym (append-nil first)
 first_and first (word ∷ words) = ap (λ (xs : List ℕ). first ++ 32 ∷ xs) (first_and word words)
 
--- a line of words and of others behind them
+-- a line of words and of others after them
 pub line_and : (first : List ℕ) (words others : List (List ℕ)) → line_of_words (first ∷ words) ++ flat_map behind_word others ≡ line_of_words (first ∷ (words ++ others))
 line_and first [] others = sym (first_and first others)
 line_and first (word ∷ words) others =

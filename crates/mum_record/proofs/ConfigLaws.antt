@@ -1,21 +1,6 @@
 -- The document that the line of a configuration names.
-use Rattle.std.proofs.Common.{◌≡◌, ℕ, ◌<◌, List, [], ◌∷◌, length, Some, None, IfOk, IsErrOf, Result, Ok, Err, refl, sym, ap, ◌∙◌, arith, lit<, codes}
-use Rattle.std.proofs.lemmas.List.Splits.{join_with_byte-slice_split}
-use Rattle.std.proofs.lemmas.Str.{IsUtf8-from_ascii}
-use Rattle.std.specs.Prelude.{◌↔◌}
-use Rattle.std.specs.List.{join_with_byte}
-use Rattle.std.specs.Str.{IsUtf8}
-use Rattle.hex.specs.Hex.{encode_lower, IsBytes}
-use Rattle.mum_record.specs.declared.step.LineFault.{LineFault}
-use Rattle.mum_record.specs.declared.step.LineFault.TheVariants.{NotALine, OutOfMemory}
-use Rattle.mum_record.specs.Words.{words_in}
-use Rattle.mum_record.specs.Head.{config_word, config_line, IsConfigLine, document_of, config_in, config_of}
-use Rattle.mum_record.specs.Answers.{Reads}
-use Rattle.mum_record.proofs.Numbers.{none_unless}
-use Rattle.mum_record.proofs.Splits.{slice_split-join_all, join-IsAscii}
-use Rattle.mum_record.proofs.Laws.{chosen}
-use Rattle.mum_record.proofs.EntryLaws.{bytes_of-found, bytes_of-encode_lower, digits_other}
-use Rattle.mum_record.proofs.Graphic.{IsGraphic, AreGraphic, graphic_AreAllWords, literal_graphic, digits_lower_graphic}
+use Rattle.mum_record.proofs.Common.{◌≡◌, ℕ, ◌<◌, List, [], ◌∷◌, length, Some, None, IfOk, IsErrOf, Result, Ok, Err, refl, sym, ap, ◌∙◌, arith, lit<, codes, join_with_byte-slice_split, IsUtf8-from_ascii, ◌↔◌, join_with_byte, IsUtf8, encode_lower, IsBytes, LineFault, NotALine, OutOfMemory, words_in, config_word, config_line, IsConfigLine, document_of, config_in, config_of, Reads}
+use Rattle.mum_record.proofs.{Numbers.none_unless, Splits.slice_split-join_all, Splits.join-IsAscii, Laws.chosen, EntryLaws.bytes_of-found, EntryLaws.bytes_of-encode_lower, EntryLaws.digits_other, Graphic.IsGraphic, Graphic.AreGraphic, Graphic.graphic_AreAllWords, Graphic.literal_graphic, Graphic.digits_lower_graphic}
 
 config_word-some : (document : List ℕ) → 0 < length document → config_word document ≡ encode_lower document
 config_word-some [] h = absurd (omega arith)

@@ -1,12 +1,5 @@
 -- The copies that words say, one after another.
-use Rattle.std.proofs.Common.{◌≡◌, ℕ, suc, List, [], ◌∷◌, ◌++◌, length, Option, Some, None, Err, refl, sym, ap, append_assoc}
-use Rattle.std.proofs.lemmas.List.{append-nil}
-use Rattle.std.specs.Option.{option_map}
-use Rattle.mum_record.specs.JournalReading.{copy_of, copies_of}
-use Rattle.mum_record.specs.JournalAnswers.{ReadsOrTires}
-use Rattle.mum_record.specs.declared.step.LineFault.{LineFault}
-use Rattle.mum_record.specs.declared.step.LineFault.TheVariants.{NotALine, OutOfMemory}
-use Rattle.mum_record.specs.declared.journal.Marked.{Marked}
+use Rattle.mum_record.proofs.Common.{◌≡◌, ℕ, suc, List, [], ◌∷◌, ◌++◌, length, Option, Some, None, Err, refl, sym, ap, append_assoc, append-nil, option_map, copy_of, copies_of, ReadsOrTires, LineFault, NotALine, OutOfMemory, Marked}
 
 -- how much of a line is left
 abbrev pub size_after : Option (List ℕ) → ℕ

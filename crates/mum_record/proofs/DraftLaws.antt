@@ -1,34 +1,6 @@
 -- The lines that a draft has taken, and how each line leads to the next draft.
-use Rattle.std.proofs.Common.{◌≡◌, ℕ, ◌+◌, ◌<◌, ◌≤◌, Bool, true, false, List, [], ◌∷◌, ◌++◌, map, length, get_or, Option, Some, None, refl, sym, ap, subst, ◌∙◌, arith, lit<, cond, append_assoc, zero-add, length-append}
-use Rattle.std.proofs.lemmas.Option.{option_and_then_some}
-use Rattle.std.proofs.lemmas.Bool.{ltb-true, ltb-false, lt-ltb, le-ltb, false_from_ne_true}
-use Rattle.std.proofs.lemmas.Slice.Eq.{bytes_eq-Decides}
-use Rattle.std.proofs.lemmas.List.{append-nil, map-append}
-use Rattle.std.proofs.lemmas.List.Splits.{join_with_byte-slice_split}
-use Rattle.std.specs.Prelude.{nat_lt, IfSome}
-use Rattle.std.specs.Option.{option_and_then}
-use Rattle.std.specs.List.{join_with_byte}
-use Rattle.std.specs.Str.{bytes_eq}
-use Rattle.hex.specs.Hex.{IsBytes}
-use Rattle.mum_record.specs.Words.{words_in}
-use Rattle.mum_record.specs.Head.{journal_line, journal_version, workers_of, limits_of, config_of, workers_line, limits_line, limits_lines, config_line, version_with, head_lines, AreLimits, IsWorkersLine}
-use Rattle.mum_record.specs.declared.head.Version.{Version}
-use Rattle.mum_record.specs.declared.head.Version.TheVariants.{One, Two}
-use Rattle.mum_record.specs.declared.head.TheConstants.{WORKERS_LIMIT}
-use Rattle.mum_record.specs.Journal.{control_words, entry_words, control_line, entry_line, worker_line, end_line, lines_from, lines_of, IsControl, IsEntry, Each, IsJournal}
-use Rattle.mum_record.specs.JournalReading.{control_of, entry_of, is_worker_line, ends_entries, with_entries, with_control, with_entry, after_workers, taken_at, taken, no_draft, journal_in}
-use Rattle.mum_record.specs.declared.journal.ControlEntry.{ControlEntry}
-use Rattle.mum_record.specs.declared.journal.WorkerEntry.{WorkerEntry}
-use Rattle.mum_record.specs.declared.journal.WorkerEntry.TheVariants.{Voice, Closed}
-use Rattle.mum_record.specs.declared.journal.Journal.{Journal}
-use Rattle.mum_record.specs.declared.draft.Draft.{Draft}
-use Rattle.mum_record.specs.declared.draft.Stage.{Stage}
-use Rattle.mum_record.specs.declared.draft.Stage.TheVariants.{Head, Workers, Limits, Config, Controls, Entries, Over}
-use Rattle.mum_record.proofs.Fits.{Each-append}
-use Rattle.mum_record.proofs.HeadLemmas.{journal_version-found, workers_of-found, workers_of-line, limits_of-found, limits_of-line}
-use Rattle.mum_record.proofs.ConfigLaws.{config_of-found, config_of-line}
-use Rattle.mum_record.proofs.Laws.{chosen, mapped}
-use Rattle.mum_record.proofs.EntryLaws.{control_of-found, control_of-line, entry_of-found, entry_of-line}
+use Rattle.mum_record.proofs.Common.{◌≡◌, ℕ, ◌+◌, ◌<◌, ◌≤◌, Bool, true, false, List, [], ◌∷◌, ◌++◌, map, length, get_or, Option, Some, None, refl, sym, ap, subst, ◌∙◌, arith, lit<, cond, append_assoc, zero-add, length-append, option_and_then_some, ltb-true, ltb-false, lt-ltb, le-ltb, false_from_ne_true, bytes_eq-Decides, append-nil, map-append, join_with_byte-slice_split, nat_lt, IfSome, option_and_then, join_with_byte, bytes_eq, IsBytes, words_in, journal_line, journal_version, workers_of, limits_of, config_of, workers_line, limits_line, limits_lines, config_line, version_with, head_lines, AreLimits, IsWorkersLine, Version, One, Two, WORKERS_LIMIT, control_words, entry_words, control_line, entry_line, worker_line, end_line, lines_from, lines_of, IsControl, IsEntry, Each, IsJournal, control_of, entry_of, is_worker_line, ends_entries, with_entries, with_control, with_entry, after_workers, taken_at, taken, no_draft, journal_in, ControlEntry, WorkerEntry, Voice, Closed, Journal, Draft, Stage, Head, Workers, Limits, Config, Controls, Entries, Over}
+use Rattle.mum_record.proofs.{Fits.Each-append, HeadLemmas.journal_version-found, HeadLemmas.workers_of-found, HeadLemmas.workers_of-line, HeadLemmas.limits_of-found, HeadLemmas.limits_of-line, ConfigLaws.config_of-found, ConfigLaws.config_of-line, Laws.chosen, Laws.mapped, EntryLaws.control_of-found, EntryLaws.control_of-line, EntryLaws.entry_of-found, EntryLaws.entry_of-line}
 
 -- ---- the lines
 
@@ -101,7 +73,7 @@ picked false x y a here there h = there refl h
 pub line_is : (line : List ℕ) (words : List (List ℕ)) → words_in line ≡ words → line ≡ join_with_byte 32 words
 line_is line words h = sym (join_with_byte-slice_split 32 line) ∙ ap (join_with_byte 32) h
 
--- the draft behind a worker that another follows, or that none follows
+-- the draft after a worker that another follows, or that none follows
 ended : Bool → Draft → Draft
 ended more d = record d { stage = cond more Entries Over; by_worker = d.by_worker ++ d.entries ∷ []; entries = [] }
 
@@ -311,7 +283,7 @@ take_worker w l c cs done es more =
     let room : nat_lt (length done + 1) w ≡ true = lt-ltb (length done + 1) w more in
     rw (room, same_line (worker_line (length done + 1))) refl
 
--- the entries of a worker and all behind them
+-- the entries of a worker and all after them
 run-workers : (others : List (List WorkerEntry)) (w : ℕ) (l : Option (ℕ × ℕ)) (c : List ℕ) (cs : List ControlEntry) (done : List (List WorkerEntry)) (es : List WorkerEntry)
     → Each IsEntry es → Each (Each IsEntry) others → length done + 1 + length others ≡ w
     → run (at_entries w l c cs done []) (map entry_line es ++ (lines_from (length done + 1) others ++ end_line ∷ [])) ≡ Some (at_end w l c cs (done ++ es ∷ others))

@@ -1,40 +1,7 @@
 -- The computed reading of an entry of a journal is its grammar, both ways.
-use Rattle.std.proofs.Common.{◌≡◌, ℕ, ◌+◌, ◌-◌, ◌*◌, ◌%◌, ◌^◌, ◌<◌, Bool, true, false, ◌&&◌, List, [], ◌∷◌, ◌++◌, map, length, get_or, Option, Some, None, is_some, IfSome, Result, Ok, Err, refl, sym, ap, subst, ◌∙◌, arith, cond, codes}
-use Rattle.std.proofs.lemmas.Option.{cond_some, option_and_then_some}
-use Rattle.std.proofs.lemmas.Bool.{cond-true, and_parts, and_from, ltb-true, lt-ltb, false_from_ne_true}
-use Rattle.std.proofs.lemmas.Slice.Eq.{bytes_eq-Decides}
-use Rattle.std.proofs.lemmas.List.Splits.{join_with_byte-slice_split}
-use Rattle.std.proofs.lemmas.Fmt.{digits_decimal, decimal_nonempty}
-use Rattle.std.proofs.lemmas.Str.Parse.{digit_at}
-use Rattle.std.specs.Prelude.{nat_lt, ◌==◌, if◌then◌else◌}
-use Rattle.std.specs.Option.{option_map}
-use Rattle.std.specs.Fmt.{decimal}
-use Rattle.std.specs.List.{slice_split, join_with_byte, list_all}
-use Rattle.std.specs.Str.{bytes_eq}
-use Rattle.hex.specs.Hex.{encode_lower, decode_of, IsBytes, lower_digits}
-use Rattle.hex.specs.declared.error.FromHexError.{FromHexError}
-use Rattle.hex.proofs.HexLemmas.{decode_of-encode_lower, decode_of-ok, length-encode_with}
-use Rattle.mum_base.specs.declared.number.Cause.{Cause}
+use Rattle.mum_record.proofs.Common.{◌≡◌, ℕ, ◌+◌, ◌-◌, ◌*◌, ◌%◌, ◌^◌, ◌<◌, Bool, true, false, ◌&&◌, List, [], ◌∷◌, ◌++◌, map, length, get_or, Option, Some, None, is_some, IfSome, Result, Ok, Err, refl, sym, ap, subst, ◌∙◌, arith, cond, codes, cond_some, option_and_then_some, cond-true, and_parts, and_from, ltb-true, lt-ltb, false_from_ne_true, bytes_eq-Decides, join_with_byte-slice_split, digits_decimal, decimal_nonempty, digit_at, nat_lt, ◌==◌, if◌then◌else◌, option_map, decimal, slice_split, join_with_byte, list_all, bytes_eq, encode_lower, decode_of, IsBytes, lower_digits, FromHexError, decode_of-encode_lower, decode_of-ok, length-encode_with, Cause, Mark, Accepted, Lacks, Refused, Rejected, Answer, Ignored, IsOneFrame, words_in, place_of, revision_of, byte_of, bytes_of, cause_word, revision_word, frame_of, cause_of, verdict_words, command_word, control_words, mark_word, copy_word, entry_words, FitsVerdict, FitsControl, Each, FitsCopy, FitsEntry, IsControl, IsEntry, may_carry, control_line, entry_line, version_of, command_of, verdict_with, lack_of, verdict_of, control_with, control_of, is_slash, mark_of, copy_with, copy_in, copy_of, copies_of, closing_cause_of, closed_of, voice_with, voice_of, entry_of, ControlEntry, Marked, WorkerEntry, Voice, Closed, is_lower_digit, eqb-true, eq-eqb}
+use Rattle.mum_record.proofs.{Numbers.own, Numbers.none_unless, Numbers.number_within-found, Numbers.number_within-decimal, Frames.frame_of-found, Frames.frame_of-encode_lower, Frames.digits_are_of, Frames.encode_lower-digits, Frames.length-digits, Frames.some_if_tested, Splits.slice_split-join_all, Laws.chosen, Laws.mapped, Laws.cause_of-found, Laws.place_of-decimal, Graphic.IsGraphic, Graphic.AreGraphic, Graphic.IsPart, Graphic.graphic_AreAllWords, Graphic.split_part, Graphic.split_parts, Graphic.decimal_graphic, Graphic.decimal_IsPart, Graphic.literal_graphic, Graphic.number_graphic, Graphic.digits_lower_graphic, Graphic.cause_graphic, Graphic.slashed_graphic}
 use Rattle.mum_base.specs.declared.number.Cause.TheVariants as causes
-use Rattle.mum_base.specs.declared.reply.Mark.{Mark}
-use Rattle.mum_base.specs.declared.reply.Mark.TheVariants.{Accepted, Lacks, Refused, Rejected, Answer, Ignored}
-use Rattle.mum_frame.specs.Frame.{IsOneFrame}
-use Rattle.mum_record.specs.Words.{words_in, place_of, revision_of, byte_of, bytes_of}
-use Rattle.mum_record.specs.Grammar.{cause_word, revision_word}
-use Rattle.mum_record.specs.Reading.{frame_of, cause_of}
-use Rattle.mum_record.specs.Journal.{verdict_words, command_word, control_words, mark_word, copy_word, entry_words, FitsVerdict, FitsControl, Each, FitsCopy, FitsEntry, IsControl, IsEntry, may_carry, control_line, entry_line}
-use Rattle.mum_record.specs.JournalReading.{version_of, command_of, verdict_with, lack_of, verdict_of, control_with, control_of, is_slash, mark_of, copy_with, copy_in, copy_of, copies_of, closing_cause_of, closed_of, voice_with, voice_of, entry_of}
-use Rattle.mum_record.specs.declared.journal.ControlEntry.{ControlEntry}
-use Rattle.mum_record.specs.declared.journal.Marked.{Marked}
-use Rattle.mum_record.specs.declared.journal.WorkerEntry.{WorkerEntry}
-use Rattle.mum_record.specs.declared.journal.WorkerEntry.TheVariants.{Voice, Closed}
-use Rattle.mum_record.proofs.Numbers.{own, none_unless, number_within-found, number_within-decimal}
-use Rattle.mum_record.specs.Answers.{is_lower_digit}
-use Rattle.mum_record.proofs.Frames.{frame_of-found, frame_of-encode_lower, digits_are_of, encode_lower-digits, length-digits, some_if_tested}
-use Rattle.mum_record.proofs.Splits.{slice_split-join_all}
-use Rattle.mum_record.proofs.Laws.{chosen, mapped, cause_of-found, place_of-decimal}
-use Rattle.mum_record.proofs.Graphic.{IsGraphic, AreGraphic, IsPart, graphic_AreAllWords, split_part, split_parts, decimal_graphic, decimal_IsPart, literal_graphic, number_graphic, digits_lower_graphic, cause_graphic, slashed_graphic}
-use borrow.Author.Tests.{eqb-true, eq-eqb}
 
 -- ---- numbers
 
@@ -454,7 +421,7 @@ control_of-cut mark connection version command =
     let rest : [] ≡ verdict_words entry.verdict = cc (found.1) in
     some_verdict entry.verdict rest)
 
--- an entry of a worker has a word behind its mark
+-- an entry of a worker has a word after its mark
 pub entry_of-cut : (mark : List ℕ) → entry_of (mark ∷ []) ≡ None
 unfolding entry_of voice_of closed_of
 entry_of-cut mark = nothing (bytes_eq mark (codes "v")) (bytes_eq mark (codes "x"))

@@ -1,11 +1,5 @@
 -- Entries whose numbers fit their types.
-use Rattle.std.proofs.Common.{◌≡◌, ℕ, ◌+◌, ◌<◌, List, [], ◌∷◌, ◌++◌, length, get_or, take, Result, Ok, Err, sym, subst}
-use Rattle.std.proofs.lemmas.List.{take_more}
-use Rattle.std.specs.Result.{OnOk}
-use Rattle.hex.specs.Hex.{IsBytes}
-use Rattle.mum_record.specs.Journal.{Each, FitsControl, FitsEntry, IsWritableControl, IsWritableEntry, IsEntry, IsWritableJournal, IsJournal}
-use Rattle.mum_record.specs.declared.journal.WorkerEntry.{WorkerEntry}
-use Rattle.mum_record.specs.declared.journal.Journal.{Journal}
+use Rattle.mum_record.proofs.Common.{◌≡◌, ℕ, ◌+◌, ◌<◌, List, [], ◌∷◌, ◌++◌, length, get_or, take, Result, Ok, Err, sym, subst, take_more, OnOk, IsBytes, Each, FitsControl, FitsEntry, IsWritableControl, IsWritableEntry, IsEntry, IsWritableJournal, IsJournal, WorkerEntry, Journal}
 
 -- what holds anyway holds where the result is `Ok`
 pub OnOk-from : {A E : Type 0} (r : Result A E) (P : Type 0) → P → OnOk r P

@@ -1,23 +1,5 @@
 -- The frame whose digits a word is.
-use Rattle.std.proofs.Common.{◌≡◌, ℕ, zero, ◌+◌, ◌-◌, ◌*◌, ◌/◌, ◌%◌, ◌<◌, ◌≤◌, List, [], ◌∷◌, length, take, drop, Option, Some, None, is_some, Result, Ok, Err, refl, sym, ap, ◌∙◌, arith, Bool, true, false, ◌&&◌, suc, slice_index, lit<}
-use Rattle.std.proofs.lemmas.Option.{cond_some}
-use Rattle.std.proofs.lemmas.Bool.{cond-true, and_parts, and_from, eqb-true, agree_below_at, false_from_ne_true}
-use Rattle.std.proofs.lemmas.List.{get_or-take, length-take-le}
-use Rattle.std.proofs.lemmas.Slice.Eq.{bytes_eq-Decides}
-use Rattle.std.proofs.lemmas.Bool.Decides.{nat_tests}
-use Rattle.std.specs.Prelude.{nat_lt, nat_le, ◌==◌, if◌then◌else◌}
-use Rattle.std.specs.List.{list_all}
-use Rattle.std.specs.Str.{bytes_eq}
-use Rattle.byteorder.specs.Endian.{big_number}
-use Rattle.hex.specs.Hex.{encode_with, encode_lower, decode_of, decode_sized, lower_digits, IsBytes}
-use Rattle.hex.specs.declared.error.FromHexError.{FromHexError}
-use Rattle.hex.proofs.HexLemmas.{length-encode_with, decode_of-encode_lower, decode_of-ok, decode_sized-encode_lower}
-use Rattle.mum_frame.specs.declared.frame.TheConstants.{HEADER_LENGTH, PAYLOAD_LIMIT}
-use Rattle.mum_frame.specs.Frame.{IsOneFrame, is_one_frame, named_length}
-use Rattle.mum_frame.proofs.OneFrame.{one_frame-tested, one_frame-found}
-use Rattle.mum_record.specs.Words.{is_space}
-use Rattle.mum_record.specs.Answers.{is_lower_digit, TestsFrame}
-use Rattle.mum_record.specs.Reading.{frame_of}
+use Rattle.mum_record.proofs.Common.{◌≡◌, ℕ, zero, ◌+◌, ◌-◌, ◌*◌, ◌/◌, ◌%◌, ◌<◌, ◌≤◌, List, [], ◌∷◌, length, take, drop, Option, Some, None, is_some, Result, Ok, Err, refl, sym, ap, ◌∙◌, arith, Bool, true, false, ◌&&◌, suc, slice_index, lit<, cond_some, cond-true, and_parts, and_from, eqb-true, agree_below_at, false_from_ne_true, get_or-take, length-take-le, bytes_eq-Decides, nat_tests, nat_lt, nat_le, ◌==◌, if◌then◌else◌, list_all, bytes_eq, big_number, encode_with, encode_lower, decode_of, decode_sized, lower_digits, IsBytes, FromHexError, length-encode_with, decode_of-encode_lower, decode_of-ok, decode_sized-encode_lower, HEADER_LENGTH, PAYLOAD_LIMIT, IsOneFrame, is_one_frame, named_length, one_frame-tested, one_frame-found, is_space, is_lower_digit, TestsFrame, frame_of}
 use Rattle.mum_record.proofs.Numbers.{none_unless}
 
 -- ---- digits 0 to 9 and a to f
@@ -30,7 +12,7 @@ lower_digit : (v : ℕ) → v < 16 → slice_index lower_digits v ≡ (if nat_lt
 unfolding lower_digit-test
 lower_digit v h = eqb-true (slice_index lower_digits v) (if nat_lt v 10 then v + 48 else v + 87) (agree_below_at lower_digit-test (λ (_ : ℕ). true) 16 v refl h)
 
--- and stands above the space
+-- and is above the space
 pub lower_digit-above : (v : ℕ) → v < 16 → (32 < slice_index lower_digits v) × (slice_index lower_digits v < 128)
 lower_digit-above v h =
     let at = lower_digit v h in

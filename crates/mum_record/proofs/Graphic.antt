@@ -1,20 +1,7 @@
 -- Words of bytes that stand for graphic characters: they hold no space and no line feed.
-use Rattle.std.proofs.Common.{◌≡◌, ℕ, suc, ◌/◌, ◌%◌, ◌^◌, ◌<◌, true, false, ◌&&◌, List, [], ◌∷◌, ◌++◌, Option, Some, None, IfSome, refl, arith, lit<, codes}
-use Rattle.std.proofs.lemmas.Bool.{and_parts, ltb-true, ne_eqb}
-use Rattle.std.proofs.lemmas.Fmt.{digits_decimal}
-use Rattle.std.proofs.lemmas.Str.Parse.{digit_from_value}
-use Rattle.std.specs.Prelude.{nat_lt, ◌==◌}
-use Rattle.std.specs.Fmt.{decimal}
-use Rattle.std.specs.List.{slice_split, join_with_byte, list_all}
-use Rattle.std.specs.Str.Parse.{AllDigits}
-use Rattle.hex.specs.Hex.{encode_with, encode_lower, IsBytes}
-use Rattle.mum_base.specs.declared.number.Cause.{Cause}
+use Rattle.mum_record.proofs.Common.{◌≡◌, ℕ, suc, ◌/◌, ◌%◌, ◌^◌, ◌<◌, true, false, ◌&&◌, List, [], ◌∷◌, ◌++◌, Option, Some, None, IfSome, refl, arith, lit<, codes, and_parts, ltb-true, ne_eqb, digits_decimal, digit_from_value, nat_lt, ◌==◌, decimal, slice_split, join_with_byte, list_all, AllDigits, encode_with, encode_lower, IsBytes, Cause, cause_word, revision_word, eq-eqb}
+use Rattle.mum_record.proofs.{Numbers.own, Frames.lower_digit-above, Splits.IsWord, Splits.AreAllWords}
 use Rattle.mum_base.specs.declared.number.Cause.TheVariants as causes
-use Rattle.mum_record.specs.Grammar.{cause_word, revision_word}
-use Rattle.mum_record.proofs.Numbers.{own}
-use Rattle.mum_record.proofs.Frames.{lower_digit-above}
-use Rattle.mum_record.proofs.Splits.{IsWord, AreAllWords}
-use borrow.Author.Tests.{eq-eqb}
 
 abbrev pub IsGraphic : List ℕ → Type 0
 IsGraphic [] = Unit {0}

@@ -1,21 +1,6 @@
 -- The version, the workers and the limits that a line names.
-use Rattle.std.proofs.Common.{◌≡◌, ℕ, ◌≤◌, List, [], ◌∷◌, Option, Some, None, refl, sym, ap, ◌∙◌, arith, Bool, true, false, cond, codes}
-use Rattle.std.proofs.lemmas.Option.{option_and_then_some}
-use Rattle.std.proofs.lemmas.Slice.Eq.{bytes_eq-Decides}
-use Rattle.std.proofs.lemmas.List.Splits.{join_with_byte-slice_split}
-use Rattle.std.proofs.lemmas.Str.{IsUtf8-from_ascii}
-use Rattle.std.specs.Prelude.{IfSome, IfNone}
-use Rattle.std.specs.Fmt.{decimal}
-use Rattle.std.specs.List.{join_with_byte}
-use Rattle.std.specs.Str.{bytes_eq, IsUtf8}
-use Rattle.mum_record.specs.declared.head.TheConstants.{WORKERS_LIMIT, LEAST_SESSIONS, MOST_SESSIONS, LEAST_CHANNELS, MOST_CHANNELS}
-use Rattle.mum_record.specs.declared.head.Version.{Version}
-use Rattle.mum_record.specs.declared.head.Version.TheVariants.{One, Two}
-use Rattle.mum_record.specs.Head.{journal_line, journal_version, version_by, workers_in, workers_of, IsWorkersLine, AreLimits, limits_with, limits_in, limits_of, IsLimitsLine, BeginBelowTheHead}
-use Rattle.mum_record.specs.Words.{words_in, number_within}
-use Rattle.mum_record.proofs.Numbers.{none_unless, number_within-found, number_within-decimal}
-use Rattle.mum_record.proofs.Splits.{AreAllWords, slice_split-join, join-IsAscii}
-use Rattle.mum_record.proofs.Laws.{literal_IsWord, decimal_IsWord, chosen, mapped}
+use Rattle.mum_record.proofs.Common.{◌≡◌, ℕ, ◌≤◌, List, [], ◌∷◌, Option, Some, None, refl, sym, ap, ◌∙◌, arith, Bool, true, false, cond, codes, option_and_then_some, bytes_eq-Decides, join_with_byte-slice_split, IsUtf8-from_ascii, IfSome, IfNone, decimal, join_with_byte, bytes_eq, IsUtf8, WORKERS_LIMIT, LEAST_SESSIONS, MOST_SESSIONS, LEAST_CHANNELS, MOST_CHANNELS, Version, One, Two, journal_line, journal_version, version_by, workers_in, workers_of, IsWorkersLine, AreLimits, limits_with, limits_in, limits_of, IsLimitsLine, BeginBelowTheHead, words_in, number_within}
+use Rattle.mum_record.proofs.{Numbers.none_unless, Numbers.number_within-found, Numbers.number_within-decimal, Splits.AreAllWords, Splits.slice_split-join, Splits.join-IsAscii, Laws.literal_IsWord, Laws.decimal_IsWord, Laws.chosen, Laws.mapped}
 
 test_holds : {A : Type 0} (b : Bool) (o : Option A) (x : A) → cond b o None ≡ Some x → (b ≡ true) × (o ≡ Some x)
 test_holds true o x h = (refl, h)

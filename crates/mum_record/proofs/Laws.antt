@@ -1,34 +1,7 @@
 -- The computed reading of a line is its grammar, both ways.
-use Rattle.std.proofs.Common.{◌≡◌, ℕ, suc, ◌/◌, ◌%◌, ◌^◌, ◌<◌, List, [], ◌∷◌, length, get_or, Option, Some, None, IfSome, Result, Ok, Err, IfOk, IsErrOf, refl, sym, ap, ◌∙◌, arith, Bool, true, false, ◌&&◌, lit<, cond, codes}
-use Rattle.std.proofs.lemmas.Slice.Eq.{bytes_eq-Decides}
-use Rattle.std.proofs.lemmas.Option.{option_and_then_some}
-use Rattle.std.proofs.lemmas.Bool.{and_parts, ltb-true, ne_eqb, false_from_ne_true}
-use Rattle.std.proofs.lemmas.Fmt.{digits_decimal, decimal_nonempty}
-use Rattle.std.proofs.lemmas.Str.{IsUtf8-from_ascii}
-use Rattle.std.proofs.lemmas.Str.Parse.{digit_at, digit_from_value}
-use Rattle.std.proofs.lemmas.List.Splits.{join_with_byte-slice_split}
-use Rattle.std.specs.Fmt.{decimal}
-use Rattle.std.specs.List.{slice_split, join_with_byte, list_all}
-use Rattle.std.specs.Prelude.{nat_lt, ◌↔◌}
-use Rattle.std.specs.Option.{option_map}
-use Rattle.std.specs.Str.{bytes_eq, IsUtf8}
-use Rattle.std.specs.Str.Parse.{AllDigits}
-use Rattle.hex.specs.Hex.{encode_with, encode_lower, IsBytes}
-use Rattle.mum_base.specs.declared.number.Cause.{Cause}
+use Rattle.mum_record.proofs.Common.{◌≡◌, ℕ, suc, ◌/◌, ◌%◌, ◌^◌, ◌<◌, List, [], ◌∷◌, length, get_or, Option, Some, None, IfSome, Result, Ok, Err, IfOk, IsErrOf, refl, sym, ap, ◌∙◌, arith, Bool, true, false, ◌&&◌, lit<, cond, codes, bytes_eq-Decides, option_and_then_some, and_parts, ltb-true, ne_eqb, false_from_ne_true, digits_decimal, decimal_nonempty, IsUtf8-from_ascii, digit_at, digit_from_value, join_with_byte-slice_split, decimal, slice_split, join_with_byte, list_all, nat_lt, ◌↔◌, option_map, bytes_eq, IsUtf8, AllDigits, encode_with, encode_lower, IsBytes, Cause, LineFault, NotALine, OutOfMemory, Step, Open, Frame, Edit, Publish, Tell, Look, Offer, Post, Drain, Collect, Close, End, words_of, line_of, cause_word, revision_word, FitsTypes, IsRecordable, IsLineOf, IsRecordedCause, Reads, place_of, revision_of, frame_of, told_of, cause_of, step_of_verb, step_naming, step_with, step_of_words, step_of, ◌-◌, is_space}
+use Rattle.mum_record.proofs.{Numbers.own, Numbers.none_unless, Numbers.number_within-found, Numbers.number_within-decimal, Frames.frame_of-found, Frames.frame_of-encode_lower, Frames.lower_digit-graphic, Splits.IsWord, Splits.AreAllWords, Splits.slice_split-join_all, Splits.join-IsAscii}
 use Rattle.mum_base.specs.declared.number.Cause.TheVariants as causes
-use Rattle.mum_record.specs.declared.step.LineFault.{LineFault}
-use Rattle.mum_record.specs.declared.step.LineFault.TheVariants.{NotALine, OutOfMemory}
-use Rattle.mum_record.specs.declared.step.Step.{Step}
-use Rattle.mum_record.specs.declared.step.Step.TheVariants.{Open, Frame, Edit, Publish, Tell, Look, Offer, Post, Drain, Collect, Close, End}
-use Rattle.mum_record.specs.Grammar.{words_of, line_of, cause_word, revision_word, FitsTypes, IsRecordable, IsLineOf, IsRecordedCause}
-use Rattle.mum_record.specs.Answers.{Reads}
-use Rattle.mum_record.specs.Words.{place_of, revision_of}
-use Rattle.mum_record.specs.Reading.{frame_of, told_of, cause_of, step_of_verb, step_naming, step_with, step_of_words, step_of}
-use Rattle.mum_record.proofs.Numbers.{own, none_unless, number_within-found, number_within-decimal}
-use Rattle.mum_record.proofs.Frames.{frame_of-found, frame_of-encode_lower, lower_digit-graphic}
-use Rattle.std.specs.Prelude.{◌-◌}
-use Rattle.mum_record.specs.Words.{is_space}
-use Rattle.mum_record.proofs.Splits.{IsWord, AreAllWords, slice_split-join_all, join-IsAscii}
 
 -- ---- what is read is written so
 
@@ -41,7 +14,7 @@ chosen {A} {P} word name x y a here there h = from (bytes_eq word name) refl h
     from true is e = here ((bytes_eq-Decides word name).0 is) e
     from false is e = there e
 
--- a value behind a constructor
+-- a value after a constructor
 pub mapped : {A B : Type 0} {P : Type 0} (f : A → B) (o : Option A) (b : B) → ((a : A) → o ≡ Some a → f a ≡ b → P) → option_map f o ≡ Some b → P
 mapped f None b from h = cc
 mapped f (Some a) b from h = from a refl (let e : f a ≡ b = cc in e)

@@ -1,3 +1,5 @@
+mod Common
+pub mod Public
 pub mod Numbers
 pub mod Splits
 pub mod Frames

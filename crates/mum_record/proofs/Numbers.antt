@@ -1,17 +1,5 @@
 -- The number that a word says.
-use Rattle.std.proofs.Common.{◌≡◌, ℕ, ◌^◌, ◌<◌, ◌≤◌, List, length, get_or, Option, Some, None, Result, Ok, Err, refl, sym, ap, ◌∙◌, arith, inl, inr, ◌&&◌, lit<}
-use Rattle.std.proofs.lemmas.Option.{cond_some}
-use Rattle.std.proofs.lemmas.Bool.{cond-true, and_parts, and_from, leb-true, le-leb, cases_eq}
-use Rattle.std.proofs.lemmas.Slice.Eq.{bytes_eq-Decides}
-use Rattle.std.proofs.lemmas.Str.Parse.{IsNumeralModel, numerals_by_value, tells_digits, parse_plain, digit_at}
-use Rattle.std.proofs.lemmas.Fmt.{digits_decimal, digits_value-decimal, decimal-digits_value, decimal_nonempty, first_decimal, decimal_digit, decimal_injective}
-use Rattle.std.specs.Str.Parse.{AllDigits, digits_value, ParsesUnsigned}
-use Rattle.std.specs.Fmt.{decimal}
-use Rattle.std.specs.Str.{bytes_eq}
-use Rattle.std.specs.Result.{result_ok}
-use Rattle.std.specs.Prelude.{nat_le, ◌-◌, ◌⊎◌}
-use Rattle.mum_record.specs.Words.{number_within, revision_of}
-use Rattle.mum_record.specs.Answers.{BeginsPlainly}
+use Rattle.mum_record.proofs.Common.{◌≡◌, ℕ, ◌^◌, ◌<◌, ◌≤◌, List, length, get_or, Option, Some, None, Result, Ok, Err, refl, sym, ap, ◌∙◌, arith, inl, inr, ◌&&◌, lit<, cond_some, cond-true, and_parts, and_from, leb-true, le-leb, cases_eq, bytes_eq-Decides, IsNumeralModel, numerals_by_value, tells_digits, parse_plain, digit_at, digits_decimal, digits_value-decimal, decimal-digits_value, decimal_nonempty, first_decimal, decimal_digit, decimal_injective, AllDigits, digits_value, ParsesUnsigned, decimal, bytes_eq, result_ok, nat_le, ◌-◌, ◌⊎◌, number_within, revision_of, BeginsPlainly}
 
 pub own : IsNumeralModel (AllDigits 10) (digits_value 10)
 own = numerals_by_value (AllDigits 10) tells_digits
@@ -50,7 +38,7 @@ pub none_unless : {A : Type 0} (o : Option A) → ((x : A) → o ≡ Some x → 
 none_unless None never = refl
 none_unless (Some x) never = absurd (never x refl)
 
--- a zero stands first only in the digits of 0
+-- a zero comes first only in the digits of 0
 one_zero : (n : ℕ) → n < 2 ^ 64 → get_or (decimal n) 0 0 ≡ 48 → length (decimal n) ≡ 1
 one_zero n fits zero =
     elim (cases_eq n 0) [

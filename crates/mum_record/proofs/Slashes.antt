@@ -1,18 +1,8 @@
 -- The parts of the word of a copy, between slashes.
-use Rattle.std.proofs.Common.{◌≡◌, ℕ, Bool, true, false, List, [], ◌∷◌, length, Option, Some, None, MatchOption, refl, sym, ap, ◌∙◌, arith, lit<, Bor}
-use Rattle.std.proofs.lemmas.List.Splits.{slice_split_first, join_with_byte-slice_split, length-slice_split}
-use Rattle.std.proofs.lemmas.Str.Pattern.{IsSplitOnceResult, split_once_first}
-use Rattle.std.specs.List.{slice_split, join_with_byte, before_first, after_first}
-use Rattle.std.specs.Option.{option_map, option_and_then}
-use Rattle.mum_record.specs.Words.{place_of, byte_of}
-use Rattle.mum_record.specs.Journal.{mark_word}
-use Rattle.mum_record.specs.JournalReading.{is_slash, mark_of, copy_with, copy_in, copy_of}
-use Rattle.mum_record.specs.declared.journal.Marked.{Marked}
-use Rattle.mum_record.proofs.Numbers.{none_unless}
-use Rattle.mum_record.proofs.Splits.{slice_split-whole}
-use Rattle.mum_record.proofs.EntryLaws.{mark_of-found}
+use Rattle.mum_record.proofs.Common.{◌≡◌, ℕ, Bool, true, false, List, [], ◌∷◌, length, Option, Some, None, MatchOption, refl, sym, ap, ◌∙◌, arith, lit<, Bor, slice_split_first, join_with_byte-slice_split, length-slice_split, IsSplitOnceResult, split_once_first, slice_split, join_with_byte, before_first, after_first, option_map, option_and_then, place_of, byte_of, mark_word, is_slash, mark_of, copy_with, copy_in, copy_of, Marked}
+use Rattle.mum_record.proofs.{Numbers.none_unless, Splits.slice_split-whole, EntryLaws.mark_of-found}
 
--- the part before the first slash, and what stands behind it
+-- the part before the first slash, and what follows it
 pub slashed : (word : List ℕ) (r : Option (Bor (List ℕ) × Bor (List ℕ))) → IsSplitOnceResult 47 word r
     → MatchOption r (slice_split is_slash word ≡ word ∷ []) (λ parts. slice_split is_slash word ≡ parts.0.now ∷ slice_split is_slash parts.1.now)
 slashed word None h =

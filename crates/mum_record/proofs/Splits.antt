@@ -1,15 +1,5 @@
 -- Lines cut into words, and words joined to lines.
-use Rattle.std.proofs.Common.{◌≡◌, ℕ, zero, suc, ◌+◌, ◌<◌, ◌≤◌, Bool, sym, List, [], ◌∷◌, ◌++◌, map, length, Option, Some, None, refl, ap, ◌∙◌, arith, inl, inr, false, lit<, Bor, length-append}
-use Rattle.std.proofs.lemmas.List.{append-nil}
-use Rattle.std.proofs.lemmas.List.Splits.{slice_split_first}
-use Rattle.std.proofs.lemmas.Str.Pattern.{IsSplitOnceResult, split_once_first, split_parts}
-use Rattle.std.proofs.lemmas.Bool.{cases_Bool}
-use Rattle.std.proofs.lemmas.Str.{IsAscii-append}
-use Rattle.std.proofs.lemmas.Str.Ascii.{IsAscii-nil}
-use Rattle.std.specs.Str.{IsAscii}
-use Rattle.std.specs.List.{slice_split, join_with_byte, flat_map, position_or_len, before_first, after_first}
-use Rattle.mum_record.specs.Words.{is_space, line_of_words, spelled_word, behind_space}
-use Rattle.mum_record.specs.declared.line.Word.{Word}
+use Rattle.mum_record.proofs.Common.{◌≡◌, ℕ, zero, suc, ◌+◌, ◌<◌, ◌≤◌, Bool, sym, List, [], ◌∷◌, ◌++◌, map, length, Option, Some, None, refl, ap, ◌∙◌, arith, inl, inr, false, lit<, Bor, length-append, append-nil, slice_split_first, IsSplitOnceResult, split_once_first, split_parts, cases_Bool, IsAscii-append, IsAscii-nil, IsAscii, slice_split, join_with_byte, flat_map, position_or_len, before_first, after_first, is_space, line_of_words, spelled_word, behind_space, Word}
 
 -- no byte is a space, and each is ASCII
 abbrev pub IsWord : List ℕ → Type 0

@@ -1,24 +1,6 @@
 -- Worked lines of recordings and journals, so that a wrong rule in the specs does not check.
-use Prim.Native.String.{String}
-use Rattle.std.proofs.Common.{◌≡◌, ℕ, Bool, true, false, List, [], ◌∷◌, ◌++◌, map, codes, Option, Some, None, Result, Ok, Err}
-use Rattle.std.specs.Fmt.{digits}
-use Rattle.hex.specs.Hex.{encode_with, decode_pairs}
-use Rattle.mum_base.proofs.Hex.{hex}
+use Rattle.mum_record.proofs.Common.{String, ◌≡◌, ℕ, Bool, true, false, List, [], ◌∷◌, ◌++◌, map, codes, Option, Some, None, Result, Ok, Err, digits, encode_with, decode_pairs, hex, Mark, Accepted, Lacks, Refused, Rejected, Answer, Ignored, named_length, kind_of, Step, Open, Frame, Edit, Publish, Tell, Look, Offer, Post, Drain, Collect, Close, End, ControlEntry, Marked, WorkerEntry, Journal, Voice, Closed, words_in, number_within, bytes_of, words_of, line_of, frame_of, told_of, cause_of, step_of_verb, step_naming, step_with, step_of_words, step_of, recording_line, recording_version, journal_line, journal_version, workers_line, workers_of, limits_line, limits_of, config_line, config_of, head_lines, version_with, first_step_line, One, Two, control_words, copy_word, entry_words, control_line, entry_line, lines_from, lines_of, ended_lines, version_of, command_of, verdict_with, lack_of, verdict_of, control_with, control_of, mark_of, copy_with, copy_of, copies_of, closing_cause_of, closed_of, voice_with, voice_of, entry_of, taken, reading_from, journal_of}
 use Rattle.mum_base.specs.declared.number.Cause.TheVariants as causes
-use Rattle.mum_base.specs.declared.reply.Mark.{Mark}
-use Rattle.mum_base.specs.declared.reply.Mark.TheVariants.{Accepted, Lacks, Refused, Rejected, Answer, Ignored}
-use Rattle.mum_frame.specs.Frame.{named_length, kind_of}
-use Rattle.mum_record.specs.declared.step.Step.{Step}
-use Rattle.mum_record.specs.declared.step.Step.TheVariants.{Open, Frame, Edit, Publish, Tell, Look, Offer, Post, Drain, Collect, Close, End}
-use Rattle.mum_record.specs.declared.journal.{ControlEntry.ControlEntry, Marked.Marked, WorkerEntry.WorkerEntry, Journal.Journal}
-use Rattle.mum_record.specs.declared.journal.WorkerEntry.TheVariants.{Voice, Closed}
-use Rattle.mum_record.specs.Words.{words_in, number_within, bytes_of}
-use Rattle.mum_record.specs.Grammar.{words_of, line_of}
-use Rattle.mum_record.specs.Reading.{frame_of, told_of, cause_of, step_of_verb, step_naming, step_with, step_of_words, step_of}
-use Rattle.mum_record.specs.Head.{recording_line, recording_version, journal_line, journal_version, workers_line, workers_of, limits_line, limits_of, config_line, config_of, head_lines, version_with, first_step_line}
-use Rattle.mum_record.specs.declared.head.Version.TheVariants.{One, Two}
-use Rattle.mum_record.specs.Journal.{control_words, copy_word, entry_words, control_line, entry_line, lines_from, lines_of, ended_lines}
-use Rattle.mum_record.specs.JournalReading.{version_of, command_of, verdict_with, lack_of, verdict_of, control_with, control_of, mark_of, copy_with, copy_of, copies_of, closing_cause_of, closed_of, voice_with, voice_of, entry_of, taken, reading_from, journal_of}
 
 -- what all facts below compute with
 lines : Type 0

@@ -1,36 +1,8 @@
 -- The computed reading of a text is the grammar of journals, and stops at the first faulty line.
-use Rattle.std.proofs.Common.{◌≡◌, ℕ, zero, suc, ◌+◌, ◌-◌, ◌<◌, ◌≤◌, Bool, true, false, List, [], ◌∷◌, ◌++◌, map, length, take, Option, Some, None, IfOk, IfErr, Result, Ok, Err, refl, sym, ap, subst, ◌∙◌, arith, lit<, lit≤, codes, append_assoc, length-append, zero-add}
-use Rattle.std.proofs.lemmas.Option.{option_and_then_some}
-use Rattle.std.proofs.lemmas.List.{append-nil}
-use Rattle.std.proofs.lemmas.List.Splits.{join_with_byte-slice_split, length-slice_split}
-use Rattle.std.specs.Prelude.{if◌then◌else◌, IfSome}
-use Rattle.std.specs.Option.{option_and_then}
-use Rattle.std.specs.Fmt.{decimal}
-use Rattle.std.specs.List.{join_with_byte}
-use Rattle.hex.specs.Hex.{IsBytes}
-use Rattle.mum_record.specs.Head.{journal_line, workers_line, limits_line, limits_lines, config_line, config_word, version_with, head_lines, AreLimits}
-use Rattle.mum_record.specs.declared.head.Version.{Version}
-use Rattle.mum_record.specs.declared.head.Version.TheVariants.{One, Two}
-use Rattle.mum_record.specs.declared.head.TheConstants.{WORKERS_LIMIT}
-use Rattle.mum_record.specs.Journal.{control_words, entry_words, control_line, entry_line, worker_line, end_line, lines_from, lines_of, ended_lines, IsControl, IsEntry, Each, IsJournal, IsTextOf, BeginJournal}
-use Rattle.mum_record.specs.JournalReading.{taken, no_draft, journal_in, is_over, ending, goes_on, reading_from, pieces_of, journal_of}
-use Rattle.mum_record.specs.Lines.{is_line_feed}
-use Rattle.mum_record.specs.JournalAnswers.{ReadsText, AnswersBy, IsFirstFault, NamesFirstFault, Takes, StopsAt}
-use Rattle.mum_record.specs.declared.journal.ControlEntry.{ControlEntry}
-use Rattle.mum_record.specs.declared.journal.WorkerEntry.{WorkerEntry}
-use Rattle.mum_record.specs.declared.journal.Journal.{Journal}
-use Rattle.mum_record.specs.declared.step.LineFault.{LineFault}
-use Rattle.mum_record.specs.declared.step.LineFault.TheVariants as line
-use Rattle.mum_record.specs.declared.journal.JournalFault.{JournalFault}
+use Rattle.mum_record.proofs.Common.{◌≡◌, ℕ, zero, suc, ◌+◌, ◌-◌, ◌<◌, ◌≤◌, Bool, true, false, List, [], ◌∷◌, ◌++◌, map, length, take, Option, Some, None, IfOk, IfErr, Result, Ok, Err, refl, sym, ap, subst, ◌∙◌, arith, lit<, lit≤, codes, append_assoc, length-append, zero-add, option_and_then_some, append-nil, join_with_byte-slice_split, length-slice_split, if◌then◌else◌, IfSome, option_and_then, decimal, join_with_byte, IsBytes, journal_line, workers_line, limits_line, limits_lines, config_line, config_word, version_with, head_lines, AreLimits, Version, One, Two, WORKERS_LIMIT, control_words, entry_words, control_line, entry_line, worker_line, end_line, lines_from, lines_of, ended_lines, IsControl, IsEntry, Each, IsJournal, IsTextOf, BeginJournal, taken, no_draft, journal_in, is_over, ending, goes_on, reading_from, pieces_of, journal_of, is_line_feed, ReadsText, AnswersBy, IsFirstFault, NamesFirstFault, Takes, StopsAt, ControlEntry, WorkerEntry, Journal, LineFault, JournalFault, Draft, Stage, Head, Workers, Limits, Config, Controls, Entries, Over}
 use Rattle.mum_record.specs.declared.journal.JournalFault.TheVariants.{NotALine, OutOfMemory}
-use Rattle.mum_record.specs.declared.draft.Draft.{Draft}
-use Rattle.mum_record.specs.declared.draft.Stage.{Stage}
-use Rattle.mum_record.specs.declared.draft.Stage.TheVariants.{Head, Workers, Limits, Config, Controls, Entries, Over}
-use Rattle.mum_record.proofs.Graphic.{IsPart, split_parts, line_IsPart, literal_IsPart, literal_graphic, decimal_graphic}
-use Rattle.mum_record.proofs.Fits.{Each-append}
-use Rattle.mum_record.proofs.ConfigLaws.{config_words_graphic}
-use Rattle.mum_record.proofs.EntryLaws.{control_graphic, entry_graphic}
-use Rattle.mum_record.proofs.DraftLaws.{SoundAt, begun_lines, top_lines, lines_at, lines_from-append, run, run-sound, run-some, run-front, run-journal, at_end}
+use Rattle.mum_record.proofs.{Graphic.IsPart, Graphic.split_parts, Graphic.line_IsPart, Graphic.literal_IsPart, Graphic.literal_graphic, Graphic.decimal_graphic, Fits.Each-append, ConfigLaws.config_words_graphic, EntryLaws.control_graphic, EntryLaws.entry_graphic, DraftLaws.SoundAt, DraftLaws.begun_lines, DraftLaws.top_lines, DraftLaws.lines_at, DraftLaws.lines_from-append, DraftLaws.run, DraftLaws.run-sound, DraftLaws.run-some, DraftLaws.run-front, DraftLaws.run-journal, DraftLaws.at_end}
+use Rattle.mum_record.specs.declared.step.LineFault.TheVariants as line
 
 -- ---- a draft can be completed
 
@@ -91,7 +63,7 @@ lists_cut done es others =
     lines_from-append 0 done (es ∷ others)
     ∙ ap (λ (k : ℕ). lines_from 0 done ++ ((worker_line k ∷ map entry_line es) ++ lines_from (k + 1) others)) (zero-add (length done))
 
--- a head without its configuration, and what comes behind
+-- a head without its configuration, and what comes after
 config_cut : (w : ℕ) (l : Option (ℕ × ℕ)) (behind : List (List ℕ))
     → ((head_lines journal_line w l [] ++ []) ++ behind) ++ end_line ∷ [] ≡ begun_lines w l ++ config_line [] ∷ (behind ++ end_line ∷ [])
 config_cut w None behind = refl
@@ -259,7 +231,7 @@ ending-ok : (d : Draft) (n : ℕ) (rest : List ℕ) (j : Journal) → ending d n
 ending-ok d n [] j h = let end = said-ok (is_over d.stage) d n j h in (refl, end.0, end.1)
 ending-ok d n (byte ∷ bytes) j h = cc
 
--- what is read is the journal of lines that were taken in order, with nothing behind
+-- what is read is the journal of lines that were taken in order, with nothing after
 record Took (d : Draft) (pieces : List (List ℕ)) (j : Journal) : Type 0 where
   lines : List (List ℕ)
   last : Draft
@@ -351,7 +323,7 @@ texts_say_one text a b one two =
 abbrev taken_of : Draft → List ℕ → Option Draft
 taken_of d line = taken d line
 
--- lines that were taken in order, and the piece behind them that is not
+-- lines that were taken in order, and the piece after them that is not
 record Stuck (d : Draft) (n : ℕ) (pieces : List (List ℕ)) (m : ℕ) : Type 0 where
   front : List (List ℕ)
   piece : List ℕ
@@ -501,7 +473,7 @@ reads_no_further d new n text rest behind line.NotALine answer cut none stops =
 reads_no_further d new n text rest behind line.OutOfMemory answer cut none stops =
     subst (λ (a : JournalFault). AnswersBy (reading_from d n (pieces_of rest)) (Err a)) (sym stops) tt
 
--- behind the last line feed
+-- after the last line feed
 pub reads_to_end : (d : Draft) (n : ℕ) (rest : List ℕ) → pieces_of rest ≡ rest ∷ [] → reading_from d n (pieces_of rest) ≡ ending d n rest
 unfolding reading_from
 reads_to_end d n rest cut = rw cut refl

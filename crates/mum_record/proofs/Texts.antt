@@ -1,29 +1,6 @@
 -- Each line that a draft takes is a text.
-use Rattle.std.proofs.Common.{◌≡◌, ℕ, zero, suc, ◌+◌, ◌/◌, ◌%◌, Bool, true, false, List, [], ◌∷◌, length, Some, None, refl, sym, subst, arith, codes, cond}
-use Rattle.std.proofs.lemmas.Bool.{cond-true, lt-ltb}
-use Rattle.std.proofs.lemmas.Slice.Eq.{bytes_eq-Decides}
-use Rattle.std.proofs.lemmas.Str.{IsUtf8-from_ascii}
-use Rattle.std.specs.Prelude.{nat_lt, ◌==◌}
-use Rattle.std.specs.Str.{bytes_eq, IsUtf8}
-use Rattle.std.specs.Fmt.{decimal, digits, digits_onto, digit_glyph}
-use Rattle.std.specs.List.{join_with_byte}
-use Rattle.mum_record.specs.Words.{words_in}
-use Rattle.mum_record.specs.Head.{journal_line, journal_version, workers_of, limits_of, config_of, config_word}
-use Rattle.mum_record.specs.declared.head.Version.{Version}
-use Rattle.mum_record.specs.declared.head.Version.TheVariants.{One, Two}
-use Rattle.mum_record.specs.Journal.{control_words, entry_words, worker_line, end_line}
-use Rattle.mum_record.specs.JournalReading.{control_of, entry_of, is_worker_line, ends_entries, with_control, with_entry, after_workers, taken_at, taken}
-use Rattle.mum_record.specs.declared.draft.Draft.{Draft}
-use Rattle.mum_record.specs.declared.draft.Stage.{Stage}
-use Rattle.mum_record.specs.declared.draft.Stage.TheVariants.{Head, Workers, Limits, Config, Controls, Entries, Over}
-use Rattle.mum_record.proofs.Numbers.{none_unless}
-use Rattle.mum_record.proofs.Splits.{join-IsAscii}
-use Rattle.mum_record.proofs.Laws.{chosen, mapped}
-use Rattle.mum_record.proofs.HeadLemmas.{journal_version-found, workers_of-found, limits_of-found}
-use Rattle.mum_record.proofs.Graphic.{IsGraphic, AreGraphic, graphic_AreAllWords, literal_graphic}
-use Rattle.mum_record.proofs.ConfigLaws.{config_of-found, config_words_graphic}
-use Rattle.mum_record.proofs.EntryLaws.{control_of-found, control_graphic, entry_of-found, entry_graphic}
-use Rattle.mum_record.proofs.DraftLaws.{picked, line_is}
+use Rattle.mum_record.proofs.Common.{◌≡◌, ℕ, zero, suc, ◌+◌, ◌/◌, ◌%◌, Bool, true, false, List, [], ◌∷◌, length, Some, None, refl, sym, subst, arith, codes, cond, cond-true, lt-ltb, bytes_eq-Decides, IsUtf8-from_ascii, nat_lt, ◌==◌, bytes_eq, IsUtf8, decimal, digits, digits_onto, digit_glyph, join_with_byte, words_in, journal_line, journal_version, workers_of, limits_of, config_of, config_word, Version, One, Two, control_words, entry_words, worker_line, end_line, control_of, entry_of, is_worker_line, ends_entries, with_control, with_entry, after_workers, taken_at, taken, Draft, Stage, Head, Workers, Limits, Config, Controls, Entries, Over}
+use Rattle.mum_record.proofs.{Numbers.none_unless, Splits.join-IsAscii, Laws.chosen, Laws.mapped, HeadLemmas.journal_version-found, HeadLemmas.workers_of-found, HeadLemmas.limits_of-found, Graphic.IsGraphic, Graphic.AreGraphic, Graphic.graphic_AreAllWords, Graphic.literal_graphic, ConfigLaws.config_of-found, ConfigLaws.config_words_graphic, EntryLaws.control_of-found, EntryLaws.control_graphic, EntryLaws.entry_of-found, EntryLaws.entry_graphic, DraftLaws.picked, DraftLaws.line_is}
 
 -- the digits of a number, whatever its size
 onto_graphic : (k n : ℕ) (rest : List ℕ) → IsGraphic rest → IsGraphic (digits_onto k 10 false n rest)

@@ -1,20 +1,6 @@
 -- The line of a worker, and the worker that a line names.
-use Rattle.std.proofs.Common.{◌≡◌, ℕ, ◌-◌, ◌^◌, ◌<◌, Bool, true, false, List, [], ◌∷◌, Some, None, refl, sym, ap, ◌∙◌, arith, codes}
-use Rattle.std.proofs.lemmas.Bool.{false_from_ne_true}
-use Rattle.std.proofs.lemmas.Slice.Eq.{bytes_eq-Decides}
-use Rattle.std.proofs.lemmas.List.Splits.{join_with_byte-slice_split}
-use Rattle.std.specs.Prelude.{◌==◌}
-use Rattle.std.specs.Fmt.{decimal}
-use Rattle.std.specs.List.{join_with_byte}
-use Rattle.mum_record.specs.Words.{words_in}
-use Rattle.mum_record.specs.Journal.{worker_line}
-use Rattle.mum_record.specs.JournalReading.{worker_in, is_worker_line}
-use Rattle.mum_record.proofs.Numbers.{number_within-decimal}
-use Rattle.mum_record.proofs.Splits.{slice_split-join_all}
-use Rattle.mum_record.proofs.Laws.{chosen}
-use Rattle.mum_record.proofs.Graphic.{graphic_AreAllWords, literal_graphic, decimal_graphic}
-use Rattle.mum_record.proofs.EntryLaws.{revision-found}
-use borrow.Author.Tests.{eqb-true, eq-eqb}
+use Rattle.mum_record.proofs.Common.{◌≡◌, ℕ, ◌-◌, ◌^◌, ◌<◌, Bool, true, false, List, [], ◌∷◌, Some, None, refl, sym, ap, ◌∙◌, arith, codes, false_from_ne_true, bytes_eq-Decides, join_with_byte-slice_split, ◌==◌, decimal, join_with_byte, words_in, worker_line, worker_in, is_worker_line, eqb-true, eq-eqb}
+use Rattle.mum_record.proofs.{Numbers.number_within-decimal, Splits.slice_split-join_all, Laws.chosen, Graphic.graphic_AreAllWords, Graphic.literal_graphic, Graphic.decimal_graphic, EntryLaws.revision-found}
 
 worker_words : (n : ℕ) → n < 2 ^ 64 → words_in (worker_line n) ≡ codes "worker" ∷ decimal n ∷ []
 worker_words n h =

@@ -1,13 +1,6 @@
 -- The text of a journal, part by part.
-use Rattle.std.proofs.Common.{◌≡◌, ℕ, ◌+◌, ◌<◌, List, [], ◌∷◌, ◌++◌, map, length, get_or, take, cond, None, Result, Ok, Err, IfOk, is_ok, refl, sym, ap, ◌∙◌, append_assoc, codes, arith, length-take}
-use Rattle.std.proofs.lemmas.List.{take_more, map-append, flat_map_more, append-nil}
-use Rattle.mum_record.specs.Head.{journal_line, limits_lines, head_lines}
-use Rattle.mum_record.specs.Journal.{control_line, entry_line, worker_line, lines_from, lines_of, ended_lines, IsJournal}
-use Rattle.mum_record.specs.JournalReading.{journal_of}
-use Rattle.mum_record.specs.declared.journal.Journal.{Journal}
-use Rattle.mum_record.specs.declared.journal.WorkerEntry.{WorkerEntry}
-use Rattle.mum_record.proofs.DraftLaws.{lines_from-push}
-use Rattle.mum_record.proofs.TextLaws.{journal_of-text}
+use Rattle.mum_record.proofs.Common.{◌≡◌, ℕ, ◌+◌, ◌<◌, List, [], ◌∷◌, ◌++◌, map, length, get_or, take, cond, None, Result, Ok, Err, IfOk, is_ok, refl, sym, ap, ◌∙◌, append_assoc, codes, arith, length-take, take_more, map-append, flat_map_more, append-nil, journal_line, limits_lines, head_lines, control_line, entry_line, worker_line, lines_from, lines_of, ended_lines, IsJournal, journal_of, Journal, WorkerEntry}
+use Rattle.mum_record.proofs.{DraftLaws.lines_from-push, TextLaws.journal_of-text}
 
 pub ended-append : (xs ys : List (List ℕ)) → ended_lines (xs ++ ys) ≡ ended_lines xs ++ ended_lines ys
 ended-append [] ys = refl
@@ -38,12 +31,12 @@ line_more {X} line_of old a b c xs i x h is a_is b_is c_is =
     ∙ flat_map_more (λ (line : List ℕ). line ++ 10 ∷ []) old before (line_of x)
     ∙ ap (λ (lines : List (List ℕ)). old ++ ended_lines lines) (sym more)
 
--- what a text is behind an append
+-- what a text is after an append
 pub appended : {X E : Type 0} (r : Result X E) (text more old : List ℕ) → text ≡ cond (is_ok r) more old → IfOk r (λ _. text ≡ more)
 appended (Ok x) text more old h = h
 appended (Err e) text more old h = tt
 
--- one line behind a text, and its line feed
+-- one line after a text, and its line feed
 line_behind : (a b c line : List ℕ) → b ≡ a ++ line → c ≡ b ++ 10 ∷ [] → c ≡ a ++ ended_lines (line ∷ [])
 line_behind a b c line b_is c_is = c_is ∙ ap (λ (t : List ℕ). t ++ 10 ∷ []) b_is ∙ simp append_assoc
 

@@ -3,8 +3,7 @@ use Rattle.std.specs.Prelude.{◌≡◌, ℕ, ◌<◌, ◌≤◌, ◌&&◌, Bool
 use Rattle.std.specs.Char.{is_ascii_hexdigit, is_ascii_uppercase}
 use Rattle.hex.specs.Hex.{encode_lower, IsBytes}
 use Rattle.mum_frame.specs.Frame.{is_one_frame}
-use Rattle.mum_record.specs.declared.step.LineFault.{LineFault}
-use Rattle.mum_record.specs.declared.step.LineFault.TheVariants.{NotALine, OutOfMemory}
+use Rattle.mum_record.specs.declared.step.LineFault.{LineFault, TheVariants.NotALine, TheVariants.OutOfMemory}
 
 -- the value that was to be read, or none where there is none; memory runs out only where there is one
 abbrev pub Reads : {X : Type 0} → Result X LineFault → Option X → Type 0
@@ -22,4 +21,6 @@ TestsFrame word tested = (bytes : List ℕ) → IsBytes bytes → word ≡ encod
 
 -- the first letter is a digit, and a zero only where it is alone
 abbrev pub BeginsPlainly : List ℕ → Type 0
-BeginsPlainly word = (0 < length word) × (48 ≤ slice_index word 0) × (slice_index word 0 ≤ 57) × (slice_index word 0 ≡ 48 → length word ≡ 1)
+BeginsPlainly word =
+    (0 < length word) × (48 ≤ slice_index word 0) × (slice_index word 0 ≤ 57)
+    × (slice_index word 0 ≡ 48 → length word ≡ 1)

@@ -2,12 +2,12 @@
 use Rattle.std.specs.Prelude.{◌≡◌, ℕ, ◌^◌, ◌<◌, List, [], ◌∷◌, Option, Some, None, IfSome, codes}
 use Rattle.std.specs.Fmt.{decimal}
 use Rattle.hex.specs.Hex.{encode_lower, IsBytes}
-use Rattle.mum_frame.specs.Frame.{IsOneFrame}
 use Rattle.mum_base.specs.declared.number.Cause.{Cause}
-use Rattle.mum_base.specs.declared.number.Cause.TheVariants as causes
+use Rattle.mum_frame.specs.Frame.{IsOneFrame}
 use Rattle.mum_record.specs.declared.step.Step.{Step}
 use Rattle.mum_record.specs.Words.{line_of_words}
 use Rattle.mum_record.specs.declared.step.Step.TheVariants.{Open, Frame, Edit, Publish, Tell, Look, Offer, Post, Drain, Collect, Close, End}
+use Rattle.mum_base.specs.declared.number.Cause.TheVariants as causes
 
 -- why a connection ended; no recording says the last of them
 abbrev pub cause_word : Cause → List ℕ

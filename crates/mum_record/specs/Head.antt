@@ -1,12 +1,10 @@
 -- The lines above the steps of a recording and above the entries of a journal.
 use Rattle.std.specs.Prelude.{◌≡◌, ℕ, ◌+◌, ◌≤◌, Bool, List, [], ◌∷◌, ◌++◌, length, Option, Some, None, option_and_then, option_map, codes, if◌then◌else◌}
-use Rattle.std.specs.Fmt.{decimal}
-use Rattle.std.specs.Str.{bytes_eq}
+use Rattle.std.specs.{Fmt.decimal, Str.bytes_eq}
 use Rattle.hex.specs.Hex.{encode_lower, IsBytes}
 use Rattle.mum_record.specs.Words.{words_in, line_of_words, number_within, bytes_of}
 use Rattle.mum_record.specs.declared.head.TheConstants.{WORKERS_LIMIT, LEAST_SESSIONS, MOST_SESSIONS, LEAST_CHANNELS, MOST_CHANNELS}
-use Rattle.mum_record.specs.declared.head.Version.{Version}
-use Rattle.mum_record.specs.declared.head.Version.TheVariants.{One, Two}
+use Rattle.mum_record.specs.declared.head.Version.{Version, TheVariants.One, TheVariants.Two}
 
 -- ---- the first line
 

@@ -1,20 +1,16 @@
 -- The lines of a journal: what the control owner decided, and then, worker by worker, what each of them sent and
 -- closed.
 use Rattle.std.specs.Prelude.{◌≡◌, ℕ, ◌+◌, ◌^◌, ◌<◌, ◌≤◌, ◌==◌, Bool, true, false, IsTrue, List, [], ◌∷◌, ◌++◌, length, map, Option, Some, None, IfSome, codes}
-use Rattle.std.specs.Fmt.{decimal}
-use Rattle.std.specs.List.{flat_map, join_with_byte}
+use Rattle.std.specs.{Fmt.decimal, List.flat_map, List.join_with_byte}
 use Rattle.hex.specs.Hex.{encode_lower, IsBytes}
 use Rattle.mum_base.specs.declared.reply.Mark.{Mark}
 use Rattle.mum_base.specs.declared.reply.Mark.TheVariants.{Accepted, Lacks, Refused, Rejected, Answer, Ignored}
 use Rattle.mum_frame.specs.Frame.{IsOneFrame, kind_of}
 use Rattle.mum_frame.specs.declared.kind.TheConstants.{AUTHENTICATE}
-use Rattle.mum_record.specs.Words.{line_of_words}
-use Rattle.mum_record.specs.Grammar.{cause_word, revision_word}
+use Rattle.mum_record.specs.{Words.line_of_words, Grammar.cause_word, Grammar.revision_word}
 use Rattle.mum_record.specs.Head.{journal_line, head_lines, AreLimits}
-use Rattle.mum_record.specs.declared.head.TheConstants.{WORKERS_LIMIT}
-use Rattle.mum_record.specs.declared.journal.ControlEntry.{ControlEntry}
-use Rattle.mum_record.specs.declared.journal.Marked.{Marked}
-use Rattle.mum_record.specs.declared.journal.WorkerEntry.{WorkerEntry}
+use Rattle.mum_record.specs.declared.{head.TheConstants.WORKERS_LIMIT, journal.ControlEntry.ControlEntry}
+use Rattle.mum_record.specs.declared.journal.{Marked.Marked, WorkerEntry.WorkerEntry}
 use Rattle.mum_record.specs.declared.journal.WorkerEntry.TheVariants.{Voice, Closed}
 use Rattle.mum_record.specs.declared.journal.Journal.{Journal}
 
@@ -111,7 +107,9 @@ FitsVerdict (Ignored why) = why < 2 ^ 8
 
 -- connections and Version numbers fit 32 bits
 abbrev pub FitsControl : ControlEntry → Type 0
-FitsControl entry = (entry.connection < 2 ^ 32) × IfSome entry.version (λ v. v < 2 ^ 32) × IfSome entry.frame IsBytes × FitsVerdict entry.verdict
+FitsControl entry =
+    (entry.connection < 2 ^ 32) × IfSome entry.version (λ v. v < 2 ^ 32) × IfSome entry.frame IsBytes
+    × FitsVerdict entry.verdict
 
 -- the session fits 32 bits and the context 8
 abbrev pub FitsCopy : Marked → Type 0
@@ -173,4 +171,5 @@ pub record IsTextOf (text : List ℕ) (journal : Journal) : Type 0 where
 
 -- lines with which the lines of some journal begin
 abbrev pub BeginJournal : List (List ℕ) → Type 0
-BeginJournal lines = (journal : Journal) × (others : List (List ℕ)) × IsJournal journal × (lines_of journal ≡ lines ++ others)
+BeginJournal lines =
+    (journal : Journal) × (others : List (List ℕ)) × IsJournal journal × (lines_of journal ≡ lines ++ others)

@@ -1,14 +1,11 @@
 -- What reading a journal answers.
 use Rattle.std.specs.Prelude.{◌≡◌, ℕ, ◌-◌, ◌<◌, ◌≤◌, List, length, take, ⊤, Option, Some, None, Result, Ok, Err}
-use Rattle.mum_record.specs.declared.step.LineFault.{LineFault}
-use Rattle.mum_record.specs.declared.step.LineFault.TheVariants as line
-use Rattle.mum_record.specs.declared.journal.Journal.{Journal}
-use Rattle.mum_record.specs.declared.journal.JournalFault.{JournalFault}
-use Rattle.mum_record.specs.declared.journal.JournalFault.TheVariants as journal
-use Rattle.mum_record.specs.declared.draft.Draft.{Draft}
-use Rattle.mum_record.specs.declared.draft.Stage.{Stage}
+use Rattle.mum_record.specs.declared.{step.LineFault.LineFault, journal.Journal.Journal}
+use Rattle.mum_record.specs.declared.{journal.JournalFault.JournalFault, draft.Draft.Draft, draft.Stage.Stage}
 use Rattle.mum_record.specs.Journal.{lines_of, ended_lines, IsJournal, IsTextOf, BeginJournal}
 use Rattle.mum_record.specs.JournalReading.{taken, taken_at, with_entries, journal_of, pieces_of}
+use Rattle.mum_record.specs.declared.step.LineFault.TheVariants as line
+use Rattle.mum_record.specs.declared.journal.JournalFault.TheVariants as journal
 
 -- the value that was to be read, or none where there is none; memory may run out in any case
 abbrev pub ReadsOrTires : {X : Type 0} → Result X LineFault → Option X → Type 0

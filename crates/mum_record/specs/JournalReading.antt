@@ -1,26 +1,18 @@
 -- The journal that a text says, computed line by line.
 use Rattle.std.specs.Prelude.{ℕ, ◌+◌, ◌==◌, Bool, true, false, List, [], ◌∷◌, ◌++◌, length, nat_lt, Option, Some, None, Result, Ok, Err, option_and_then, option_map, codes, if◌then◌else◌}
-use Rattle.std.specs.List.{slice_split}
-use Rattle.std.specs.Str.{bytes_eq}
-use Rattle.mum_base.specs.declared.number.Cause.{Cause}
-use Rattle.mum_base.specs.declared.number.Cause.TheVariants as causes
-use Rattle.mum_base.specs.declared.reply.Mark.{Mark}
+use Rattle.std.specs.{List.slice_split, Str.bytes_eq}
+use Rattle.mum_base.specs.declared.{number.Cause.Cause, reply.Mark.Mark}
 use Rattle.mum_base.specs.declared.reply.Mark.TheVariants.{Accepted, Lacks, Refused, Rejected, Answer, Ignored}
 use Rattle.mum_record.specs.Words.{words_in, place_of, revision_of, byte_of, bytes_of}
-use Rattle.mum_record.specs.Reading.{frame_of, cause_of}
-use Rattle.mum_record.specs.Lines.{is_line_feed}
-use Rattle.mum_record.specs.Head.{journal_version, workers_of, limits_of, config_of}
-use Rattle.mum_record.specs.declared.head.Version.{Version}
-use Rattle.mum_record.specs.declared.head.Version.TheVariants.{One, Two}
+use Rattle.mum_record.specs.{Reading.frame_of, Reading.cause_of, Lines.is_line_feed}
 use Rattle.mum_record.specs.Journal.{may_carry, worker_line, end_line}
-use Rattle.mum_record.specs.declared.journal.ControlEntry.{ControlEntry}
-use Rattle.mum_record.specs.declared.journal.Marked.{Marked}
-use Rattle.mum_record.specs.declared.journal.WorkerEntry.{WorkerEntry}
+use Rattle.mum_record.specs.Head.{journal_version, workers_of, limits_of, config_of}
+use Rattle.mum_record.specs.declared.head.Version.{Version, TheVariants.One, TheVariants.Two}
+use Rattle.mum_record.specs.declared.journal.{ControlEntry.ControlEntry, Marked.Marked, WorkerEntry.WorkerEntry}
 use Rattle.mum_record.specs.declared.journal.WorkerEntry.TheVariants.{Voice, Closed}
-use Rattle.mum_record.specs.declared.journal.Journal.{Journal}
-use Rattle.mum_record.specs.declared.draft.Draft.{Draft}
-use Rattle.mum_record.specs.declared.draft.Stage.{Stage}
+use Rattle.mum_record.specs.declared.{journal.Journal.Journal, draft.Draft.Draft, draft.Stage.Stage}
 use Rattle.mum_record.specs.declared.draft.Stage.TheVariants.{Head, Workers, Limits, Config, Controls, Entries, Over}
+use Rattle.mum_base.specs.declared.number.Cause.TheVariants as causes
 
 -- ---- a control entry
 
@@ -44,7 +36,8 @@ verdict_with name word =
 -- the permission that was missing, and where
 unfoldable pub lack_of : List ℕ → List ℕ → Option Mark
 lack_of perm channel =
-    option_and_then (λ (p : ℕ). option_map (λ (c : ℕ). Lacks (record { 0 = p }) (record { 0 = c })) (place_of channel)) (place_of perm)
+    option_and_then (λ (p : ℕ). option_map (λ (c : ℕ). Lacks (record { 0 = p }) (record { 0 = c })) (place_of channel))
+    (place_of perm)
 
 -- the verdict that the last words of a line say
 unfoldable pub verdict_of : List (List ℕ) → Option Mark
@@ -61,7 +54,9 @@ carried entry = if may_carry entry.version entry.frame then Some entry else None
 -- the control entry of a connection, a Version number, a command and the words of a verdict
 unfoldable pub control_with : List ℕ → List ℕ → List ℕ → List (List ℕ) → Option ControlEntry
 control_with connection version command verdict =
-    option_and_then (λ (c : ℕ). option_and_then (λ (v : Option ℕ). option_and_then (λ (f : Option (List ℕ)). option_and_then (λ (m : Mark).
+    option_and_then
+    (λ (c : ℕ). option_and_then
+    (λ (v : Option ℕ). option_and_then (λ (f : Option (List ℕ)). option_and_then (λ (m : Mark).
     carried (record { connection = c; version = v; frame = f; verdict = m }))
     (verdict_of verdict)) (command_of command)) (version_of version)) (place_of connection)
 
@@ -109,7 +104,9 @@ copy_of word = copy_in (slice_split is_slash word)
 -- the copies that words say, each one
 unfoldable pub copies_of : List (List ℕ) → Option (List Marked)
 copies_of [] = Some []
-copies_of (word ∷ words) = option_and_then (λ (copy : Marked). option_map (λ (copies : List Marked). copy ∷ copies) (copies_of words)) (copy_of word)
+copies_of (word ∷ words) =
+    option_and_then (λ (copy : Marked). option_map (λ (copies : List Marked). copy ∷ copies) (copies_of words))
+    (copy_of word)
 
 -- journals alone say the last cause
 unfoldable pub closing_cause_of : List ℕ → Option Cause
@@ -119,17 +116,21 @@ closing_cause_of word = if bytes_eq word (codes "memory") then Some causes.Memor
 unfoldable pub closed_of : List (List ℕ) → Option WorkerEntry
 closed_of [] = None
 closed_of (connection ∷ []) = None
-closed_of (connection ∷ cause ∷ []) = option_and_then (λ (c : ℕ). option_map (Closed c) (closing_cause_of cause)) (place_of connection)
+closed_of (connection ∷ cause ∷ []) =
+    option_and_then (λ (c : ℕ). option_map (Closed c) (closing_cause_of cause)) (place_of connection)
 closed_of (connection ∷ cause ∷ more ∷ others) = None
 
 -- a voice entry, where it has as many copies as it counts
 abbrev pub counted : ℕ → ℕ → ℕ → List ℕ → List Marked → Option WorkerEntry
-counted n connection revision packet copies = if n == length copies then Some (Voice connection revision packet copies) else None
+counted n connection revision packet copies =
+    if n == length copies then Some (Voice connection revision packet copies) else None
 
 -- the voice entry of a connection, a revision, a packet, a count and copies
 unfoldable pub voice_with : List ℕ → List ℕ → List ℕ → List ℕ → List (List ℕ) → Option WorkerEntry
 voice_with connection revision packet count copies =
-    option_and_then (λ (c : ℕ). option_and_then (λ (r : ℕ). option_and_then (λ (p : List ℕ). option_and_then (λ (n : ℕ). option_and_then (λ (all : List Marked).
+    option_and_then
+    (λ (c : ℕ). option_and_then
+    (λ (r : ℕ). option_and_then (λ (p : List ℕ). option_and_then (λ (n : ℕ). option_and_then (λ (all : List Marked).
     counted n c r p all)
     (copies_of copies)) (revision_of count)) (bytes_of packet)) (revision_of revision)) (place_of connection)
 
@@ -163,7 +164,8 @@ is_worker_line n line = bytes_eq line (worker_line n)
 -- the line that ends the entries of a worker: the next worker begins, or the journal ends
 abbrev pub ends_entries : Draft → List ℕ → Bool
 ends_entries draft line =
-    if nat_lt (length draft.by_worker + 1) draft.workers then is_worker_line (length draft.by_worker + 1) line else bytes_eq line end_line
+    if nat_lt (length draft.by_worker + 1) draft.workers then is_worker_line
+    (length draft.by_worker + 1) line else bytes_eq line end_line
 
 -- after the entries of a worker, those of the next follow or the journal is over
 abbrev pub stage_after : Draft → Stage
@@ -171,7 +173,8 @@ stage_after draft = if nat_lt (length draft.by_worker + 1) draft.workers then En
 
 -- the draft once the entries of a worker are all there
 abbrev pub with_entries : Draft → Draft
-with_entries draft = record draft { stage = stage_after draft; by_worker = draft.by_worker ++ draft.entries ∷ []; entries = [] }
+with_entries draft =
+    record draft { stage = stage_after draft; by_worker = draft.by_worker ++ draft.entries ∷ []; entries = [] }
 
 -- the draft with one control entry more
 abbrev pub with_control : Draft → ControlEntry → Draft
@@ -189,9 +192,12 @@ after_workers Two = Limits
 -- the draft with one line more at a stage, if that line may come there
 abbrev pub taken_at : Stage → Draft → List ℕ → Option Draft
 taken_at Head draft line = option_map (λ (v : Version). record draft { stage = Workers v }) (journal_version line)
-taken_at (Workers v) draft line = option_map (λ (w : ℕ). record draft { stage = after_workers v; workers = w }) (workers_of line)
-taken_at Limits draft line = option_map (λ (limits : ℕ × ℕ). record draft { stage = Config; limits = Some limits }) (limits_of line)
-taken_at Config draft line = option_map (λ (document : List ℕ). record draft { stage = Controls; config = document }) (config_of line)
+taken_at (Workers v) draft line =
+    option_map (λ (w : ℕ). record draft { stage = after_workers v; workers = w }) (workers_of line)
+taken_at Limits draft line =
+    option_map (λ (limits : ℕ × ℕ). record draft { stage = Config; limits = Some limits }) (limits_of line)
+taken_at Config draft line =
+    option_map (λ (document : List ℕ). record draft { stage = Controls; config = document }) (config_of line)
 taken_at Controls draft line =
     if is_worker_line 0 line then Some (record draft { stage = Entries })
     else option_map (with_control draft) (control_of (words_in line))
@@ -238,7 +244,8 @@ goes_on n (Some draft) rest = rest draft
 unfoldable pub reading_from : Draft → ℕ → List (List ℕ) → Result Journal ℕ
 reading_from draft n [] = Err n
 reading_from draft n (rest ∷ []) = ending draft n rest
-reading_from draft n (line ∷ next ∷ more) = goes_on n (taken draft line) (λ (after : Draft). reading_from after (n + 1) (next ∷ more))
+reading_from draft n (line ∷ next ∷ more) =
+    goes_on n (taken draft line) (λ (after : Draft). reading_from after (n + 1) (next ∷ more))
 
 -- a text cut at its line feeds: its lines, and last what no line feed ends
 abbrev pub pieces_of : List ℕ → List (List ℕ)

@@ -1,8 +1,7 @@
 -- What the computed reading of a line is to the grammar.
 use Rattle.std.specs.Prelude.{◌≡◌, ◌↔◌, ℕ, List, Some}
 use Rattle.mum_record.specs.declared.step.Step.{Step}
-use Rattle.mum_record.specs.Grammar.{IsLineOf, IsRecordable, line_of}
-use Rattle.mum_record.specs.Reading.{step_of}
+use Rattle.mum_record.specs.{Grammar.IsLineOf, Grammar.IsRecordable, Grammar.line_of, Reading.step_of}
 
 -- a line is read as a step exactly where it says that step
 abbrev pub ReadsTheGrammar : Type 0

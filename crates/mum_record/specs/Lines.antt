@@ -1,7 +1,6 @@
 -- The lines of a text.
 use Rattle.std.specs.Prelude.{◌≡◌, ℕ, ◌==◌, Bool, List, [], ◌∷◌, Option, Some, None}
-use Rattle.std.specs.List.{slice_split}
-use Rattle.std.specs.Borrow.{Bor}
+use Rattle.std.specs.{List.slice_split, Borrow.Bor}
 
 -- the byte that ends a line
 abbrev pub is_line_feed : ℕ → Bool

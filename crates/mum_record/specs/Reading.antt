@@ -1,18 +1,19 @@
 -- The step that a line says, computed from its words.
 use Rattle.std.specs.Prelude.{ℕ, ◌&&◌, List, [], ◌∷◌, Option, Some, None, if◌then◌else◌, option_and_then, option_map, codes}
-use Rattle.std.specs.Str.{bytes_eq}
-use Rattle.std.specs.Result.{result_ok}
+use Rattle.std.specs.{Str.bytes_eq, Result.result_ok}
 use Rattle.hex.specs.Hex.{encode_lower, decode_of}
+use Rattle.mum_base.specs.declared.number.Cause.{Cause}
 use Rattle.mum_frame.specs.Frame.{is_one_frame}
 use Rattle.mum_record.specs.Words.{words_in, place_of, revision_of}
-use Rattle.mum_base.specs.declared.number.Cause.{Cause}
-use Rattle.mum_base.specs.declared.number.Cause.TheVariants as causes
 use Rattle.mum_record.specs.declared.step.Step.{Step}
 use Rattle.mum_record.specs.declared.step.Step.TheVariants.{Open, Frame, Edit, Publish, Tell, Look, Offer, Post, Drain, Collect, Close, End}
+use Rattle.mum_base.specs.declared.number.Cause.TheVariants as causes
 
 -- the frame whose digits the word is
 unfoldable pub frame_of : List ℕ → Option (List ℕ)
-frame_of word = option_and_then (λ bytes. if bytes_eq word (encode_lower bytes) && is_one_frame bytes then Some bytes else None) (result_ok (decode_of word))
+frame_of word =
+    option_and_then (λ bytes. if bytes_eq word (encode_lower bytes) && is_one_frame bytes then Some bytes else None)
+    (result_ok (decode_of word))
 
 -- a revision, or none
 unfoldable pub told_of : List ℕ → Option (Option ℕ)

@@ -1,15 +1,11 @@
 -- Lines as words, and the numbers that words say.
 use Rattle.std.specs.Prelude.{◌≡◌, ℕ, ◌-◌, ◌^◌, ◌<◌, ◌&&◌, ◌==◌, Bool, List, [], ◌∷◌, length, Option, Some, None, nat_le, nat_lt, option_and_then, if◌then◌else◌}
-use Rattle.std.specs.List.{slice_split, join_with_byte}
-use Rattle.std.specs.Fmt.{decimal}
-use Rattle.std.specs.Str.{bytes_eq}
-use Rattle.std.specs.Str.Parse.{digits_value}
+use Rattle.std.specs.{List.slice_split, List.join_with_byte, Fmt.decimal, Str.bytes_eq, Str.Parse.digits_value}
 use Rattle.std.specs.Result.{result_ok}
 use Rattle.hex.specs.Hex.{encode_lower, decode_of}
-use Rattle.mum_record.specs.declared.words.Words.{Words}
-use Rattle.mum_record.specs.declared.words.Words.TheVariants.{One, Two, Three, More}
-use Rattle.mum_record.specs.declared.line.Word.{Word}
+use Rattle.mum_record.specs.declared.{words.Words.Words, line.Word.Word}
 use Rattle.mum_record.specs.declared.line.Word.TheVariants.{Name, Number, Digits}
+use Rattle.mum_record.specs.declared.words.Words.TheVariants.{One, Two, Three, More}
 
 -- the byte between words
 abbrev pub is_space : ℕ → Bool
@@ -44,7 +40,8 @@ byte_of word = number_within 0 (2 ^ 8 - 1) word
 -- the bytes whose digits a word is, at least one
 unfoldable pub bytes_of : List ℕ → Option (List ℕ)
 bytes_of word =
-    option_and_then (λ bytes. if bytes_eq word (encode_lower bytes) && nat_lt 0 (length bytes) then Some bytes else None)
+    option_and_then
+    (λ bytes. if bytes_eq word (encode_lower bytes) && nat_lt 0 (length bytes) then Some bytes else None)
     (result_ok (decode_of word))
 
 -- ---- in the code

@@ -86,7 +86,7 @@ fn verdict_in(words: &str) -> Option<Mark>
     }
 }
 
-/// The words of a control entry in its line.
+// The words of a control entry in its line.
 #[derive(Clone, Copy)]
 struct ControlWords<'a> {
     connection: &'a str,
@@ -141,7 +141,7 @@ fn may_carry_version(version: Option<u32>, frame: &Option<Octets>) -> bool
     }
 }
 
-/// The control entry that a line says.
+// The control entry that a line says.
 #[tactic(auto, unfolding(crate::specs::JournalReading::control_of, crate::specs::JournalReading::control_with))]
 pub(crate) fn control_in(alloc: Global, line: &str) -> Result<ControlEntry, LineFault>
     ensures { ReadsOrTires result (control_of (words_in line.now)) }
@@ -164,7 +164,8 @@ pub(crate) fn control_in(alloc: Global, line: &str) -> Result<ControlEntry, Line
 
 // Appends a verdict, each of its words after a space.
 fn push_verdict(alloc: Global, text: &mut String, verdict: &Mark) -> Result<(), OutOfMemory>
-    ensures text { IfOk result (λ _. string_bytes text.new ≡ string_bytes text.old ++ flat_map behind_word (verdict_words verdict.now)) }
+    ensures text { IfOk result
+        (λ _. string_bytes text.new ≡ string_bytes text.old ++ flat_map behind_word (verdict_words verdict.now)) }
     ensures fits { OnOk result (FitsVerdict verdict.now) }
 {
     match *verdict {
@@ -219,7 +220,7 @@ fn command_word(frame: &Option<Octets>) -> Word<'_>
     }
 }
 
-/// Appends the line of a control entry, without a line feed.
+// Appends the line of a control entry, without a line feed.
 pub(crate) fn push_control(
     alloc: Global,
     text: &mut String,

@@ -17,7 +17,7 @@ use mum_base::{Items, Octets};
 use std::alloc::Global;
 use std::mem;
 
-/// Which line comes next.
+// Which line comes next.
 #[derive(Clone, Copy)]
 pub(crate) enum Stage {
     /// The first: `journal 1` or `journal 2`.
@@ -36,7 +36,7 @@ pub(crate) enum Stage {
     Over,
 }
 
-/// A journal as far as its lines are read.
+// A journal as far as its lines are read.
 #[derive(Drop)]
 pub(crate) struct Draft {
     pub(crate) stage: Stage,
@@ -71,7 +71,7 @@ fn is_worker_line(number: u64, line: &str) -> bool
 }
 
 impl Draft {
-    /// Before the first line.
+    // Before the first line.
     pub(crate) fn new(alloc: Global) -> Draft
         ensures { result ≡ no_draft }
     {
@@ -200,7 +200,7 @@ impl Draft {
         }
     }
 
-    /// The next line, which may be any bytes, if it is one that may come.
+    // The next line, which may be any bytes, if it is one that may come.
     pub(crate) fn take(&mut self, alloc: Global, line: &[u8]) -> Result<(), LineFault>
         ensures { Takes self.old line.now result self.new }
     {
@@ -210,7 +210,7 @@ impl Draft {
         }
     }
 
-    /// The journal that was read.
+    // The journal that was read.
     pub(crate) fn into_journal(self) -> Journal
         ensures { result ≡ journal_in self }
     {

@@ -79,7 +79,7 @@ fn copies_in(alloc: Global, mut rest: Option<&str>) -> Result<Items<Marked>, Lin
     Ok(copies)
 }
 
-/// The words of a voice entry in its line, after its mark.
+// The words of a voice entry in its line, after its mark.
 #[derive(Clone, Copy)]
 struct VoiceWords<'a> {
     connection: &'a str,
@@ -94,7 +94,8 @@ struct VoiceWords<'a> {
 fn voice_words(words: &str) -> Option<VoiceWords<'_>>
     ensures { MatchOption result (voice_of (words_in words.now) ≡ None)
         (λ entry. words_in words.now
-        ≡ entry.connection.now ∷ entry.revision.now ∷ entry.packet.now ∷ entry.count.now ∷ words_after (option_copied entry.copies)) }
+        ≡ entry.connection.now ∷ entry.revision.now ∷ entry.packet.now ∷ entry.count.now
+        ∷ words_after (option_copied entry.copies)) }
 {
     let (connection, rest) = split_word(words)?;
     let (revision, rest) = split_word(rest)?;
@@ -155,7 +156,7 @@ fn closed_in(words: &str) -> Option<WorkerEntry>
     Some(WorkerEntry::Closed { connection, cause })
 }
 
-/// The entry of a worker that a line says.
+// The entry of a worker that a line says.
 #[tactic(auto, unfolding(crate::specs::JournalReading::entry_of))]
 pub(crate) fn entry_in(alloc: Global, line: &str) -> Result<WorkerEntry, LineFault>
     ensures { ReadsOrTires result (entry_of (words_in line.now)) }
@@ -222,7 +223,7 @@ fn push_voice(
     push_copies(alloc, text, copies)
 }
 
-/// Appends the line of an entry of a worker, without a line feed.
+// Appends the line of an entry of a worker, without a line feed.
 pub(crate) fn push_entry(
     alloc: Global,
     text: &mut String,

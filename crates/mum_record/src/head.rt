@@ -133,7 +133,7 @@ pub fn recording_version(line: &[u8]) -> Option<Version>
     }
 }
 
-/// The version of the journal that a line which is a text begins.
+// The version of the journal that a line which is a text begins.
 #[tactic(auto, unfolding(crate::specs::Head::journal_version))]
 pub(crate) fn journal_version_in(line: &str) -> Option<Version>
     ensures { result ≡ journal_version line.now }
@@ -145,7 +145,7 @@ pub(crate) fn journal_version_in(line: &str) -> Option<Version>
     }
 }
 
-/// The workers that a line which is a text names.
+// The workers that a line which is a text names.
 #[tactic(auto, unfolding(crate::specs::Head::workers_of))]
 pub(crate) fn workers_in(line: &str) -> Option<u8>
     ensures { result ≡ workers_of line.now }
@@ -170,7 +170,7 @@ pub fn read_workers(line: &[u8]) -> Option<u8>
     }
 }
 
-/// The limits that a line which is a text names.
+// The limits that a line which is a text names.
 #[tactic(auto, unfolding(crate::specs::Head::limits_of))]
 pub(crate) fn limits_in(line: &str) -> Option<Limits>
     ensures { result ≡ limits_of line.now }
@@ -234,7 +234,7 @@ fn document_in(alloc: Global, word: &str) -> Result<Octets, LineFault>
     }
 }
 
-/// The document that a line which is a text names.
+// The document that a line which is a text names.
 #[tactic(auto, unfolding(crate::specs::Head::config_of))]
 pub(crate) fn config_in(alloc: Global, line: &str) -> Result<Octets, LineFault>
     ensures { Reads result (config_of line.now) }

@@ -1,7 +1,8 @@
 //! Reading a journal.
 
-ghost use Rattle.std.specs.Prelude.{◌≡◌, ◌+◌, IfOk, IfErr, IfSome, length, position};
+ghost use Rattle.std.specs.Prelude.{◌≡◌, ◌≢◌, ◌+◌, IfOk, IfErr, IfSome, length, position};
 ghost use Rattle.mum_record.specs.Journal.{IsTextOf};
+ghost use Rattle.mum_record.specs.declared.journal.JournalFault.TheVariants.{OutOfMemory};
 ghost use Rattle.mum_record.specs.JournalReading.{ending};
 ghost use Rattle.mum_record.specs.JournalAnswers.{ReadsText, AnswersBy, NamesFirstFault, StopsAt, JournalsAreReadBack, TextsSayOneJournal};
 
@@ -23,7 +24,8 @@ fn fault_at(line: u64, fault: LineFault) -> JournalFault
 
 // The journal of a draft, if it has ended and nothing follows.
 fn ended(draft: Draft, line: u64, rest: &[u8]) -> Result<Journal, JournalFault>
-    ensures { AnswersBy (ending draft line rest.now) result }
+    ensures answer { AnswersBy (ending draft line rest.now) result }
+    ensures named { IfErr result (λ fault. fault ≢ OutOfMemory) }
 {
     if matches!(draft.stage, Stage::Over) && rest.is_empty() {
         Ok(draft.into_journal())
@@ -32,7 +34,8 @@ fn ended(draft: Draft, line: u64, rest: &[u8]) -> Result<Journal, JournalFault>
     }
 }
 
-/// The journal that a text says, or the first line that is none of it. The text may be any bytes.
+/// The journal that a text says, or the first line that is none of it. The text may be any bytes. `OutOfMemory` is the
+/// answer at a line alone: a text that ends too early, or goes on after its end, takes no memory to be refused.
 pub fn read_journal(alloc: Global, text: &[u8]) -> Result<Journal, JournalFault>
     // A journal is the one that the text says, and `NotALine` is of a text that says none.
     ensures exact { ReadsText text.now result }

@@ -26,7 +26,8 @@ fn first_line(version: Version) -> &'static str
 
 // Appends the line of the limits, where there are any.
 fn push_limits(alloc: Global, text: &mut String, limits: &Option<Limits>) -> Result<(), OutOfMemory>
-    ensures { IfOk result (λ _. string_bytes text.new ≡ string_bytes text.old ++ ended_lines (limits_lines limits.now)) }
+    ensures { IfOk result
+        (λ _. string_bytes text.new ≡ string_bytes text.old ++ ended_lines (limits_lines limits.now)) }
 {
     let Some(limits) = limits else {
         return Ok(());
@@ -62,7 +63,8 @@ fn push_controls(
     text: &mut String,
     controls: &[ControlEntry],
 ) -> Result<(), OutOfMemory>
-    ensures text { IfOk result (λ _. string_bytes text.new ≡ string_bytes text.old ++ ended_lines (map control_line controls.now)) }
+    ensures text { IfOk result
+        (λ _. string_bytes text.new ≡ string_bytes text.old ++ ended_lines (map control_line controls.now)) }
     ensures fits { OnOk result (Each FitsControl controls.now) }
 {
     for entry in controls {
@@ -78,7 +80,8 @@ fn push_entries(
     text: &mut String,
     entries: &[WorkerEntry],
 ) -> Result<(), OutOfMemory>
-    ensures text { IfOk result (λ _. string_bytes text.new ≡ string_bytes text.old ++ ended_lines (map entry_line entries.now)) }
+    ensures text { IfOk result
+        (λ _. string_bytes text.new ≡ string_bytes text.old ++ ended_lines (map entry_line entries.now)) }
     ensures fits { OnOk result (Each FitsEntry entries.now) }
 {
     for entry in entries {
@@ -94,7 +97,8 @@ fn push_workers(
     text: &mut String,
     by_worker: &[Items<WorkerEntry>],
 ) -> Result<(), OutOfMemory>
-    ensures text { IfOk result (λ _. string_bytes text.new ≡ string_bytes text.old ++ ended_lines (lines_from 0 by_worker.now)) }
+    ensures text { IfOk result
+        (λ _. string_bytes text.new ≡ string_bytes text.old ++ ended_lines (lines_from 0 by_worker.now)) }
     ensures fits { OnOk result (Each (Each FitsEntry) by_worker.now) }
 {
     for (number, entries) in by_worker.iter().enumerate() {

@@ -20,7 +20,7 @@ pub enum Word<'a> {
     Digits(&'a [u8]),
 }
 
-/// The word of a number of 64 bits.
+// The word of a number of 64 bits.
 pub(crate) fn number_word(number: u64) -> Word<'static>
     ensures word { result ≡ Word.Number number }
     ensures fits { number < 2 ^ 64 }
@@ -28,7 +28,7 @@ pub(crate) fn number_word(number: u64) -> Word<'static>
     Word::Number(number)
 }
 
-/// The word of a number of 32 bits.
+// The word of a number of 32 bits.
 pub(crate) fn place_word(number: u32) -> Word<'static>
     ensures word { result ≡ Word.Number number }
     ensures fits { number < 2 ^ 32 }
@@ -36,7 +36,7 @@ pub(crate) fn place_word(number: u32) -> Word<'static>
     Word::Number(u64::from(number))
 }
 
-/// The word of a number of 8 bits.
+// The word of a number of 8 bits.
 pub(crate) fn byte_word(number: u8) -> Word<'static>
     ensures word { result ≡ Word.Number number }
     ensures fits { number < 2 ^ 8 }
@@ -44,7 +44,7 @@ pub(crate) fn byte_word(number: u8) -> Word<'static>
     Word::Number(u64::from(number))
 }
 
-/// The word of bytes.
+// The word of bytes.
 pub(crate) fn digits_word(bytes: &[u8]) -> Word<'_>
     ensures word { spelled_word result ≡ encode_lower bytes.now }
     ensures fits { IsBytes bytes.now }
@@ -81,7 +81,8 @@ pub fn push_line(
     first: &str,
     words: &[Word<'_>],
 ) -> Result<(), OutOfMemory>
-    ensures { IfOk result (λ _. string_bytes text.new ≡ string_bytes text.old ++ line_of_words (first.now ∷ map spelled_word words.now)) }
+    ensures { IfOk result
+        (λ _. string_bytes text.new ≡ string_bytes text.old ++ line_of_words (first.now ∷ map spelled_word words.now)) }
 {
     text.push_str(first)?;
     push_words(alloc, text, words)

@@ -27,7 +27,7 @@ fn told_in(word: &str) -> Option<Option<u64>>
     }
 }
 
-/// The cause that a word of a recording says.
+// The cause that a word of a recording says.
 #[tactic(auto, unfolding(crate::specs::Reading::cause_of))]
 pub(crate) fn cause_in(word: &str) -> Option<Cause>
     ensures { result ≡ cause_of word.now }
@@ -65,7 +65,7 @@ fn is_frame(word: &[u8]) -> bool
     are_lower_digits(word) && has_named_length(word)
 }
 
-/// The bytes of the frame whose digits a word is. It takes memory only for such a word.
+// The bytes of the frame whose digits a word is. It takes memory only for such a word.
 pub(crate) fn frame_in(alloc: Global, word: &str) -> Result<Octets, LineFault>
     ensures { Reads result (frame_of word.now) }
 {

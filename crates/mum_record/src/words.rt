@@ -12,7 +12,7 @@ use crate::step::LineFault;
 use mum_base::Octets;
 use std::alloc::Global;
 
-/// The words of a line. No line of a recording has more than three.
+// The words of a line. No line of a recording has more than three.
 #[derive(Clone, Copy)]
 pub(crate) enum Words<'a> {
     One(&'a str),
@@ -21,7 +21,7 @@ pub(crate) enum Words<'a> {
     More,
 }
 
-/// The word before the first space, and what follows that space.
+// The word before the first space, and what follows that space.
 pub(crate) fn first_word(line: &str) -> (&str, Option<&str>)
     ensures words { words_in line.now ≡ result.0.now ∷ words_after (option_copied result.1) }
     ensures shorter { IfSome result.1 (λ rest. length rest.now < length line.now) }
@@ -32,9 +32,10 @@ pub(crate) fn first_word(line: &str) -> (&str, Option<&str>)
     }
 }
 
-/// The word before the first space and what follows that space, where there is one.
+// The word before the first space and what follows that space, where there is one.
 pub(crate) fn split_word(line: &str) -> Option<(&str, &str)>
-    ensures { MatchOption result (words_in line.now ≡ line.now ∷ []) (λ parts. words_in line.now ≡ parts.0.now ∷ words_in parts.1.now) }
+    ensures { MatchOption result (words_in line.now ≡ line.now ∷ [])
+        (λ parts. words_in line.now ≡ parts.0.now ∷ words_in parts.1.now) }
 {
     let (word, rest) = first_word(line);
     match rest {
@@ -43,7 +44,7 @@ pub(crate) fn split_word(line: &str) -> Option<(&str, &str)>
     }
 }
 
-/// The words of a line. It reads no further than the third space.
+// The words of a line. It reads no further than the third space.
 pub(crate) fn words_in(line: &str) -> Words<'_>
     ensures { AreWords (words_in line.now) result }
 {
@@ -61,10 +62,10 @@ pub(crate) fn words_in(line: &str) -> Words<'_>
     }
 }
 
-/// The greatest number of a connection or a worker, which fits 32 bits.
+// The greatest number of a connection or a worker, which fits 32 bits.
 const GREATEST_PLACE: u64 = 0xFFFF_FFFF;
 
-/// The greatest type, reason or context, which fits 8 bits.
+// The greatest type, reason or context, which fits 8 bits.
 const GREATEST_BYTE: u64 = 0xFF;
 
 // Whether a word begins as a number does: with a digit, and with no zero before another one.
@@ -74,7 +75,7 @@ fn begins_plainly(word: &[u8]) -> bool
     matches!(word, [b'0'] | [b'1'..=b'9', ..])
 }
 
-/// The number that a word says, in decimal and without leading zeros.
+// The number that a word says, in decimal and without leading zeros.
 pub(crate) fn number_in(word: &str) -> Option<u64>
     ensures { result ≡ revision_of word.now }
 {
@@ -95,7 +96,7 @@ pub fn number_within(least: u64, greatest: u64, word: &str) -> Option<u64>
     Some(number)
 }
 
-/// The connection or worker that a word says.
+// The connection or worker that a word says.
 pub(crate) fn place_in(word: &str) -> Option<u32>
     ensures { result ≡ place_of word.now }
 {
@@ -103,7 +104,7 @@ pub(crate) fn place_in(word: &str) -> Option<u32>
     Some(number as u32)
 }
 
-/// The type, reason or context that a word says.
+// The type, reason or context that a word says.
 pub(crate) fn byte_in(word: &str) -> Option<u8>
     ensures { result ≡ byte_of word.now }
 {
@@ -111,7 +112,7 @@ pub(crate) fn byte_in(word: &str) -> Option<u8>
     Some(number as u8)
 }
 
-/// Whether a word is digits 0 to 9 and a to f.
+// Whether a word is digits 0 to 9 and a to f.
 pub(crate) fn are_lower_digits(word: &[u8]) -> bool
     ensures { result ≡ list_all is_lower_digit word.now }
 {
@@ -131,7 +132,7 @@ fn is_bytes(word: &[u8]) -> bool
     are_lower_digits(word)
 }
 
-/// The bytes whose digits a word is, one at least. It takes memory only for such a word.
+// The bytes whose digits a word is, one at least. It takes memory only for such a word.
 pub(crate) fn bytes_in(alloc: Global, word: &str) -> Result<Octets, LineFault>
     ensures { Reads result (bytes_of word.now) }
 {

@@ -1,29 +1,7 @@
 -- What the frames of a connection ask for that was answered all that it asked.
-use Rattle.std.proofs.Common.{◌≡◌, ℕ, ◌==◌, ◌^◌, ◌<◌, ◌⊎◌, Bool, true, false, cond, List, [], Option, Some, None, Ok, refl, sym, ap, subst, ◌∙◌, arith, inl, inr}
-use Rattle.std.specs.Prelude.{is_some}
-use Rattle.std.specs.List.{list_any}
-use Rattle.std.proofs.lemmas.Bool.{eqb-true, false≢true}
-use Rattle.std.proofs.lemmas.List.{append-nil}
-use Rattle.mum_frame.specs.Frame.{kind_of, payload_of, spelling_of}
-use Rattle.mum_frame.specs.declared.kind.TheConstants.{AUTHENTICATE, PING, UDP_TUNNEL, VERSION}
-use Rattle.mum_frame.proofs.Headers.{kind-reads_back}
-use Rattle.mum_frame.proofs.OneFrame.{payload_of-spelling}
-use Rattle.mum_fields.specs.Table.{Values, decoded, layout, parts, spelled}
-use Rattle.mum_fields.proofs.ReadBack.{read_back}
-use Rattle.mum_msg_state.specs.Messages.{version}
-use Rattle.mum_msg_state.specs.declared.version.Version.{Version}
-use Rattle.mum_session.specs.Action.{action, after_frame, command_action, commands_after_login, version_action, version_after}
-use Rattle.mum_session.specs.Heard.{command_heard, login_heard}
+use Rattle.mum_recording_laws.proofs.Common.{◌≡◌, ℕ, ◌==◌, ◌^◌, ◌<◌, ◌⊎◌, Bool, true, false, cond, List, [], Option, Some, None, Ok, refl, sym, ap, subst, ◌∙◌, arith, inl, inr, is_some, list_any, eqb-true, false≢true, append-nil, kind_of, payload_of, spelling_of, AUTHENTICATE, PING, UDP_TUNNEL, VERSION, kind-reads_back, payload_of-spelling, Values, decoded, layout, parts, spelled, read_back, version, Version, action, after_frame, command_action, commands_after_login, version_action, version_after, command_heard, login_heard, Ask, Keep, Asked, Command, Malformed, Message, Connection, Stays, Seat, machine_of, stage_of, frame_heard}
 use Rattle.mum_session.specs.Machine.{session_of as session_in}
-use Rattle.mum_session.specs.declared.action.Action.TheVariants.{Ask, Keep, Voice}
-use Rattle.mum_session.specs.declared.command.Asked.{Asked}
-use Rattle.mum_session.specs.declared.command.Command.{Command}
-use Rattle.mum_session.specs.declared.heard.Heard.TheVariants.{Malformed, Message}
-use Rattle.mum_core.specs.declared.connection.Connection.{Connection}
-use Rattle.mum_core.specs.declared.connection.Leave.TheVariants.{Stays}
-use Rattle.mum_core.specs.declared.connection.Seat.{Seat}
-use Rattle.mum_core.specs.Machine.{machine_of, stage_of}
-use Rattle.mum_recording_laws.specs.Recorded.{frame_heard}
+use Rattle.mum_session.specs.declared.action.Action.TheVariants.{Voice}
 
 -- a connection that was answered all that it asked, and not rejected
 abbrev pub at_rest : ℕ → Option ℕ → Option Seat → Bool → Connection

@@ -1,23 +1,5 @@
 -- No connection closes twice in a run.
-use Rattle.std.proofs.Common.{◌≡◌, ◌≢◌, ℕ, zero, suc, ◌+◌, ◌<◌, ◌==◌, not, Bool, true, false, cond, List, [], ◌∷◌, ◌++◌, None, Some, refl, sym, ap, subst, ◌∙◌, arith}
-use Rattle.std.specs.Prelude.{is_some, slice_get}
-use Rattle.std.specs.List.{AllByRecursion, filter_map, flat_map}
-use Rattle.std.proofs.lemmas.Bool.{eqb-true, false≢true}
-use Rattle.std.proofs.lemmas.List.Elements.{filter_map-append}
-use Rattle.mum_base.specs.declared.number.Cause.{Cause}
-use Rattle.mum_record.specs.declared.journal.WorkerEntry.{WorkerEntry}
-use Rattle.mum_record.specs.declared.step.Step.{Step}
-use Rattle.mum_record.specs.declared.step.Step.TheVariants.{Close}
-use Rattle.mum_core.specs.Connection.{closed_at}
-use Rattle.mum_core.specs.Core.{CoreState, connection_at, is_opened, up}
-use Rattle.mum_core.specs.Laws.{IsRun, gathered, ran}
-use Rattle.mum_core.specs.Step.{does, illegal}
-use Rattle.mum_core.proofs.Places.{connections_stay}
-use Rattle.mum_core.proofs.RunLaws.{none_stands, not_false}
-use Rattle.mum_core.proofs.Settled.{closed_stays}
-use Rattle.mum_audit.specs.Legal.{closed_by}
-use Rattle.mum_audit.proofs.Pairs.{Pairs, each_both, each_weaker}
-use Rattle.mum_recording_laws.specs.Recorded.{closed}
+use Rattle.mum_recording_laws.proofs.Common.{◌≡◌, ◌≢◌, ℕ, zero, suc, ◌+◌, ◌<◌, ◌==◌, not, Bool, true, false, cond, List, [], ◌∷◌, ◌++◌, None, Some, refl, sym, ap, subst, ◌∙◌, arith, is_some, slice_get, AllByRecursion, filter_map, flat_map, eqb-true, false≢true, filter_map-append, Cause, WorkerEntry, Step, Close, closed_at, CoreState, connection_at, is_opened, up, IsRun, gathered, ran, does, illegal, connections_stay, none_stands, not_false, closed_stays, closed_by, Pairs, each_both, each_weaker, closed}
 use Rattle.mum_recording_laws.proofs.Sitting.{changed_here}
 
 -- ---- of one worker

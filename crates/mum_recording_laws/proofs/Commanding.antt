@@ -1,67 +1,18 @@
 -- The command of a frame is decided in a core in which nothing is underway, and leaves such a core.
-use Rattle.std.proofs.Common.{◌≡◌, ℕ, ◌+◌, ◌==◌, ◌^◌, ◌≤◌, ◌<◌, ◌⊎◌, max, Bool, true, false, cond, List, [], ◌∷◌, ◌++◌, length, length-append, Option, Some, None, refl, sym, ap, subst, ◌∙◌, arith, inl, inr}
-use Rattle.std.specs.Prelude.{IfSome, is_none, is_some, nat_lt, not, option_to_list, slice_index_or}
-use Rattle.std.specs.List.{AllZip, list_any}
-use Rattle.std.specs.Option.{option_map, option_or}
-use Rattle.std.proofs.lemmas.Bool.{le-ltb, eqb-true}
-use Rattle.mum_frame.specs.Frame.{kind_of, payload_of}
-use Rattle.mum_frame.specs.declared.kind.TheConstants.{AUTHENTICATE}
-use Rattle.mum_record.specs.declared.journal.ControlEntry.{ControlEntry}
-use Rattle.mum_record.specs.declared.step.Step.{Step}
+use Rattle.mum_recording_laws.proofs.Common.{◌≡◌, ℕ, ◌+◌, ◌==◌, ◌^◌, ◌≤◌, ◌<◌, ◌⊎◌, max, Bool, true, false, cond, List, [], ◌∷◌, ◌++◌, length, length-append, Option, Some, None, refl, sym, ap, subst, ◌∙◌, arith, inl, inr, IfSome, is_none, is_some, nat_lt, not, option_to_list, slice_index_or, AllZip, list_any, option_map, option_or, le-ltb, eqb-true, kind_of, payload_of, AUTHENTICATE, ControlEntry, Step, Close, Frame, Publish, Tell, action, after_frame, commands_after_login, command_heard, login_heard, mark, edits_of, verdict, Mark, first_that_stands, WorkerState, has_edit, note_cases, changed-by, Keeps, notes_keep, AreOrderly, Action, Ask, Keep, Asked, Heard, Malformed, Message, Edit, Verdict, Connection, LeaveStage, Reply, Seat, answered, asking, is_accepted, is_rejected, next_command, next_of_frame, seat_given, session_of, told, CoreState, at_connection, connection_at, current, is_opened, up, worker_at, IsRun, gathered, ran, machine_of, does, frame_action, frame_version, illegal, idle, after_entry, mark_on, verdict_on, Past, session_in, IsAsked, IsCommand, has_version, leaves, rejects, Decided, IsDecided, command_of, decided, frame_heard, routed}
+use Rattle.mum_core.specs.Connection.{revision_of}
+use Rattle.mum_recording_laws.proofs.{Holding.as_many, Options.none_some, Options.none_there, Asking.at_rest, Asking.command_by, Asking.frame_asks, Asking.version_frame, Asking.version_kept, Asking.version_told, Done.Done, Following.Follows, Following.after, Following.does_is, Following.follows_entry, Following.follows_quiet, Following.verdict_of, Joining.gathered_joined, Joining.orderly_joined, Joining.ran_joined, Joining.run_joined, Moving.Alike, Moving.IsFree, Moving.IsOpen, Moving.alike_itself, Moving.free_more, Moving.Moves, Moving.frame_allowed, Moving.moves_at, Moving.moves_on, Moving.passed, Moving.still_opened, Resting.Ready, Resting.Sits, Resting.calm_of, Resting.neither, Resting.own_test, Resting.settles, Resting.sits_on, Sitting.AreCalm, Sitting.calm_step, Seated.welcomed}
 use Rattle.mum_record.specs.declared.step.Step.TheVariants as steps
-use Rattle.mum_record.specs.declared.step.Step.TheVariants.{Close, Frame, Publish, Tell}
-use Rattle.mum_session.specs.Action.{action, after_frame, commands_after_login}
-use Rattle.mum_session.specs.Heard.{command_heard, login_heard}
-use Rattle.mum_session.specs.Reply.{mark}
-use Rattle.mum_session.specs.Verdict.{edits_of, verdict}
-use Rattle.mum_base.specs.declared.reply.Mark.{Mark}
 use Rattle.mum_base.specs.declared.reply.Mark.TheVariants as marks
 use Rattle.mum_state.specs.declared.verdict.Verdict.TheVariants as verdicts
-use Rattle.mum_core.specs.Case.{first_that_stands}
-use Rattle.mum_core.specs.Worker.{WorkerState}
 use Rattle.mum_core.specs.steps.Tell as tell_step
-use Rattle.mum_core.specs.steps.Tell.{has_edit, note_cases}
-use Rattle.mum_core.proofs.Changed.{changed-by}
-use Rattle.mum_core.proofs.RunLaws.{Keeps, notes_keep}
-use Rattle.mum_recording_laws.specs.Orderly.{AreOrderly}
-use Rattle.mum_recording_laws.proofs.Holding.{as_many}
-use Rattle.mum_session.specs.declared.action.Action.{Action}
-use Rattle.mum_session.specs.declared.action.Action.TheVariants.{Ask, Keep}
-use Rattle.mum_session.specs.declared.command.Asked.{Asked}
-use Rattle.mum_session.specs.declared.heard.Heard.{Heard}
-use Rattle.mum_session.specs.declared.heard.Heard.TheVariants.{Malformed, Message}
-use Rattle.mum_state.specs.declared.edit.Edit.{Edit}
-use Rattle.mum_state.specs.declared.verdict.Verdict.{Verdict}
-use Rattle.mum_core.specs.declared.connection.Connection.{Connection}
-use Rattle.mum_core.specs.declared.connection.Leave.{Leave as LeaveStage}
 use Rattle.mum_core.specs.declared.connection.Leave.TheVariants as leaving
-use Rattle.mum_core.specs.declared.connection.Reply.{Reply}
-use Rattle.mum_core.specs.declared.connection.Seat.{Seat}
-use Rattle.mum_core.specs.Connection.{answered, asking, is_accepted, is_rejected, revision_of, next_command, next_of_frame, seat_given, session_of, told}
-use Rattle.mum_core.specs.Core.{CoreState, at_connection, connection_at, current, is_opened, up, worker_at}
-use Rattle.mum_core.specs.Laws.{IsRun, gathered, ran}
-use Rattle.mum_core.specs.Machine.{machine_of}
-use Rattle.mum_core.specs.Step.{does, frame_action, frame_version, illegal}
-use Rattle.mum_core.specs.Worker.{idle}
 use Rattle.mum_core.specs.steps.Edit as edit_step
 use Rattle.mum_core.specs.steps.Frame as frame_step
-use Rattle.mum_audit.specs.Controls.{after_entry, mark_on, verdict_on}
-use Rattle.mum_audit.specs.Past.{Past, session_of as session_in}
-use Rattle.mum_recording_laws.specs.Order.{IsAsked, IsCommand, has_version, leaves, rejects}
-use Rattle.mum_recording_laws.specs.Recorded.{Decided, IsDecided, command_of, decided, frame_heard, routed}
-use Rattle.mum_recording_laws.proofs.Options.{none_some, none_there}
-use Rattle.mum_recording_laws.proofs.Asking.{at_rest, command_by, frame_asks, version_frame, version_kept, version_told}
-use Rattle.mum_recording_laws.proofs.Done.{Done}
-use Rattle.mum_recording_laws.proofs.Following.{Follows, after, does_is, follows_entry, follows_quiet, verdict_of}
-use Rattle.mum_recording_laws.proofs.Joining.{gathered_joined, orderly_joined, ran_joined, run_joined}
-use Rattle.mum_recording_laws.proofs.Moving.{Alike, IsFree, IsOpen, alike_itself, free_more, Moves, frame_allowed, moves_at, moves_on, passed, still_opened}
-use Rattle.mum_recording_laws.proofs.Resting.{Ready, Sits, calm_of, neither, own_test, settles, sits_on}
-use Rattle.mum_recording_laws.proofs.Sitting.{AreCalm, calm_step}
-use Rattle.mum_recording_laws.proofs.Seated.{welcomed}
 
 -- ---- a version
 
--- the version behind a report, if there is one
+-- the version after a report, if there is one
 abbrev reported_by : Option ℕ → Option ℕ → Option ℕ
 reported_by None before = before
 reported_by (Some number) before = Some number
@@ -308,7 +259,7 @@ module _ (n : ℕ) (place : ℕ → ℕ) (core : CoreState) (past : Past) (earli
     follows_three : Follows three (after_entry past entry)
     follows_three = follows_entry two past c what follows_two calm_two opened_two next entry is_decided
 
-    -- ---- it is published and told
+    -- ---- it is published and reported
 
     abbrev four : CoreState
     four = does three Publish

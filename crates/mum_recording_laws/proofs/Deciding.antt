@@ -1,40 +1,12 @@
 -- What an audit decides of an entry is what is decided of its command.
-use Rattle.std.proofs.Common.{◌≡◌, ℕ, ◌==◌, ◌||◌, Bool, true, false, cond, List, [], ◌∷◌, drop, Option, Some, None, refl, sym, ap, subst}
-use Rattle.std.specs.Prelude.{⊤, unwrap_or}
-use Rattle.std.specs.List.{list_any}
-use Rattle.std.proofs.lemmas.Bool.{false≢true}
-use Rattle.mum_audit.specs.Decision.{asked_verdict, command_verdict, decided, frame_verdict, heard_verdict, takes_nothing}
-use Rattle.mum_base.specs.Codes.{reason_code}
-use Rattle.mum_base.specs.declared.number.SessionId.{SessionId}
-use Rattle.mum_base.specs.declared.outcome.Reason.{Reason}
+use Rattle.mum_recording_laws.proofs.Common.{◌≡◌, ℕ, ◌==◌, ◌||◌, Bool, true, false, cond, List, [], ◌∷◌, drop, Option, Some, None, refl, sym, ap, subst, ⊤, unwrap_or, list_any, false≢true, asked_verdict, command_verdict, frame_verdict, heard_verdict, takes_nothing, reason_code, SessionId, Reason, kind_of, payload_of, ACL, AUTHENTICATE, CHANNEL_REMOVE, CHANNEL_STATE, TEXT_MESSAGE, USER_REMOVE, USER_STATE, VOICE_TARGET, acl, permission_query, text_message, voice_target, acl_of, permission_query_of, text_message_of, voice_target_of, channel_remove, channel_state, user_remove, user_state, channel_remove_of, channel_state_of, user_remove_of, user_state_of, Case, case_of, first_standing, unless_ignored, is_gone, takes_no_edits, Acl, Remove, State, is_leave, user_reasons, Join, Kick, Leave, Query, Target, Text, commands_after_login, command_heard, heard_map, login_heard, read, verdict, Asked, Tree, User, Heard, Malformed, Message, TooLong, StateValue, Verdict, Ignored, command_of, frame_heard}
+use Rattle.mum_audit.specs.Decision.{decided}
 use Rattle.mum_base.specs.declared.outcome.Reason.TheVariants as reasons
-use Rattle.mum_frame.specs.Frame.{kind_of, payload_of}
-use Rattle.mum_frame.specs.declared.kind.TheConstants.{ACL, AUTHENTICATE, CHANNEL_REMOVE, CHANNEL_STATE, TEXT_MESSAGE, USER_REMOVE, USER_STATE, VOICE_TARGET}
-use Rattle.mum_msg_rule.specs.Messages.{acl, permission_query, text_message, voice_target}
-use Rattle.mum_msg_rule.specs.Parts.{acl_of, permission_query_of, text_message_of, voice_target_of}
-use Rattle.mum_msg_state.specs.Messages.{channel_remove, channel_state, user_remove, user_state}
-use Rattle.mum_msg_state.specs.Parts.{channel_remove_of, channel_state_of, user_remove_of, user_state_of}
 use Rattle.mum_rules_tree.specs.Asked as channels
-use Rattle.mum_rules_tree.specs.Decision.{Case, case_of, first_standing, unless_ignored}
-use Rattle.mum_rules_tree.specs.Reasons.{is_gone, takes_no_edits}
 use Rattle.mum_rules_tree.specs.Reasons as tree
 use Rattle.mum_rules_tree.specs.Verdict as tree_decision
-use Rattle.mum_rules_tree.specs.declared.message.TreeMessage.TheVariants.{Acl, Remove, State}
-use Rattle.mum_rules_user.specs.Reasons.{is_leave, reasons as user_reasons}
 use Rattle.mum_rules_user.specs.Verdict as user_decision
-use Rattle.mum_rules_user.specs.declared.message.UserMessage.TheVariants.{Join, Kick, Leave, Query, Target, Text}
 use Rattle.mum_rules_user.specs.declared.message.UserMessage.TheVariants as about
-use Rattle.mum_session.specs.Action.{commands_after_login}
-use Rattle.mum_session.specs.Heard.{command_heard, heard_map, login_heard, read}
-use Rattle.mum_session.specs.Verdict.{verdict}
-use Rattle.mum_session.specs.declared.command.Asked.{Asked}
-use Rattle.mum_session.specs.declared.command.Asked.TheVariants.{Tree, User}
-use Rattle.mum_session.specs.declared.heard.Heard.{Heard}
-use Rattle.mum_session.specs.declared.heard.Heard.TheVariants.{Malformed, Message, TooLong}
-use Rattle.mum_state.specs.State.{StateValue}
-use Rattle.mum_state.specs.declared.verdict.Verdict.{Verdict}
-use Rattle.mum_state.specs.declared.verdict.Verdict.TheVariants.{Ignored}
-use Rattle.mum_recording_laws.specs.Recorded.{command_of, frame_heard}
 
 -- ---- an actor of whom nothing is taken
 

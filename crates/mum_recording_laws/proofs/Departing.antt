@@ -1,41 +1,10 @@
 -- A connection that ends leaves a core in which nothing is underway, and so does each control entry.
-use Rattle.std.proofs.Common.{◌≡◌, ℕ, ◌+◌, ◌==◌, ◌&&◌, ◌^◌, ◌<◌, Bool, true, false, List, [], ◌∷◌, ◌++◌, length, length-append, Option, Some, None, refl, sym, ap, subst, ◌∙◌, arith}
-use Rattle.std.specs.Prelude.{IfSome, is_none, is_some, not, option_to_list, slice_index_or}
-use Rattle.std.specs.List.{AllZip, list_any}
-use Rattle.std.specs.Option.{option_map}
-use Rattle.std.proofs.lemmas.Bool.{eq-eqb, false≢true}
+use Rattle.mum_recording_laws.proofs.Common.{◌≡◌, ℕ, ◌+◌, ◌==◌, ◌&&◌, ◌^◌, ◌<◌, Bool, true, false, List, [], ◌∷◌, ◌++◌, length, length-append, Option, Some, None, refl, sym, ap, subst, ◌∙◌, arith, IfSome, is_none, is_some, not, option_to_list, slice_index_or, AllZip, list_any, option_map, eq-eqb, false≢true, ControlEntry, Close, Frame, Publish, Tell, Leave, mark, edits_of, verdict, Asked, User, Message, Edit, Verdict, Connection, LeaveStage, Reply, answered, closed_at, next_command, next_of_frame, session_of, CoreState, connection_at, current, is_opened, up, worker_at, WorkerState, idle, gathered, does, illegal, after_entry, mark_on, verdict_on, Past, IsAsked, has_version, leaves, rejects, Decided, IsDecided, command_of, decided}
+use Rattle.mum_recording_laws.proofs.{Commanding.done_frame, Done.Done, Following.Follows, Following.after, Following.does_is, Following.follows_entry, Following.follows_quiet, Following.verdict_of, Moving.Alike, Moving.IsFree, Moving.Moves, Moving.alike_itself, Moving.free_more, Moving.moves_at, Moving.moves_on, Moving.passed, Moving.still_opened, Resting.Ready, Resting.Sits, Resting.calm_of, Resting.neither, Resting.settles, Resting.sits_on, Sitting.AreCalm, Sitting.calm_step}
 use Rattle.mum_base.specs.declared.number.Cause.TheVariants as causes
-use Rattle.mum_record.specs.declared.journal.ControlEntry.{ControlEntry}
 use Rattle.mum_record.specs.declared.step.Step.TheVariants as steps
-use Rattle.mum_record.specs.declared.step.Step.TheVariants.{Close, Frame, Publish, Tell}
-use Rattle.mum_rules_user.specs.declared.message.UserMessage.TheVariants.{Leave}
-use Rattle.mum_session.specs.Reply.{mark}
-use Rattle.mum_session.specs.Verdict.{edits_of, verdict}
-use Rattle.mum_session.specs.declared.command.Asked.{Asked}
-use Rattle.mum_session.specs.declared.command.Asked.TheVariants.{User}
-use Rattle.mum_session.specs.declared.heard.Heard.TheVariants.{Message}
-use Rattle.mum_state.specs.declared.edit.Edit.{Edit}
-use Rattle.mum_state.specs.declared.verdict.Verdict.{Verdict}
-use Rattle.mum_core.specs.declared.connection.Connection.{Connection}
-use Rattle.mum_core.specs.declared.connection.Leave.{Leave as LeaveStage}
 use Rattle.mum_core.specs.declared.connection.Leave.TheVariants as leaving
-use Rattle.mum_core.specs.declared.connection.Reply.{Reply}
-use Rattle.mum_core.specs.Connection.{answered, closed_at, next_command, next_of_frame, session_of}
-use Rattle.mum_core.specs.Core.{CoreState, connection_at, current, is_opened, up, worker_at}
-use Rattle.mum_core.specs.Worker.{WorkerState, idle}
-use Rattle.mum_core.specs.Laws.{gathered}
-use Rattle.mum_core.specs.Step.{does, illegal}
 use Rattle.mum_core.specs.steps.Edit as edit_step
-use Rattle.mum_audit.specs.Controls.{after_entry, mark_on, verdict_on}
-use Rattle.mum_audit.specs.Past.{Past}
-use Rattle.mum_recording_laws.specs.Order.{IsAsked, has_version, leaves, rejects}
-use Rattle.mum_recording_laws.specs.Recorded.{Decided, IsDecided, command_of, decided}
-use Rattle.mum_recording_laws.proofs.Commanding.{done_frame}
-use Rattle.mum_recording_laws.proofs.Done.{Done}
-use Rattle.mum_recording_laws.proofs.Following.{Follows, after, does_is, follows_entry, follows_quiet, verdict_of}
-use Rattle.mum_recording_laws.proofs.Moving.{Alike, IsFree, Moves, alike_itself, free_more, moves_at, moves_on, passed, still_opened}
-use Rattle.mum_recording_laws.proofs.Resting.{Ready, Sits, calm_of, neither, settles, sits_on}
-use Rattle.mum_recording_laws.proofs.Sitting.{AreCalm, calm_step}
 
 module _ (n : ℕ) (place : ℕ → ℕ) (core : CoreState) (past : Past) (earlier : List ControlEntry) (entry : ControlEntry) (ready : Ready n place core past earlier)
     (says : entry.verdict ≡ mark_on past entry) (asked : IsAsked past earlier entry) (there : list_any (leaves entry.connection) earlier ≡ false) (opened : is_opened core entry.connection ≡ true) where

@@ -1,16 +1,6 @@
 -- What it takes to decide a control entry.
-use Rattle.std.proofs.Common.{◌≡◌, ℕ, List, [], ◌∷◌, ◌++◌, length}
-use Rattle.std.specs.List.{AllZip}
-use Rattle.mum_record.specs.declared.journal.ControlEntry.{ControlEntry}
-use Rattle.mum_record.specs.declared.step.Step.{Step}
-use Rattle.mum_core.specs.Core.{CoreState, worker_at}
-use Rattle.mum_core.specs.Laws.{IsRun, gathered, ran}
-use Rattle.mum_audit.specs.Controls.{after_entry}
-use Rattle.mum_audit.specs.Past.{Past}
-use Rattle.mum_recording_laws.specs.Orderly.{AreOrderly}
-use Rattle.mum_recording_laws.specs.Recorded.{IsDecided, decided, routed}
-use Rattle.mum_recording_laws.proofs.Moving.{Alike}
-use Rattle.mum_recording_laws.proofs.Resting.{Ready}
+use Rattle.mum_recording_laws.proofs.Common.{◌≡◌, ℕ, List, [], ◌∷◌, ◌++◌, length, AllZip, ControlEntry, Step, CoreState, worker_at, IsRun, gathered, ran, after_entry, Past, AreOrderly, IsDecided, decided, routed}
+use Rattle.mum_recording_laws.proofs.{Moving.Alike, Resting.Ready}
 
 -- what a control entry leaves
 pub record Done (n : ℕ) (place : ℕ → ℕ) (core : CoreState) (past : Past) (earlier : List ControlEntry) (entry : ControlEntry) : Type 0 where

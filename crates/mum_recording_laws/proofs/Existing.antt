@@ -1,41 +1,6 @@
 -- A legal journal that is in order is one of a run.
-use Rattle.std.proofs.Common.{◌≡◌, ℕ, zero, suc, ◌+◌, ◌-◌, ◌≤◌, ◌<◌, ◌==◌, max, not, Bool, true, false, cond, List, [], ◌∷◌, ◌++◌, length, take, filter, Some, None, refl, sym, ap, subst, ◌∙◌, arith, append_assoc, append-nil, length-append, inl, inr}
-use Rattle.std.specs.Prelude.{nat_lt, slice_get, slice_index_or}
-use Rattle.std.specs.List.{AllByRecursion, AllZip, filter_map, flat_map}
-use Rattle.std.proofs.lemmas.Bool.{and_parts, cases_eq, eq-eqb, lt-ltb, ltb-true}
-use Rattle.std.proofs.lemmas.List.{length-replicate}
-use Rattle.std.proofs.lemmas.List.Elements.{recursion_from_All}
-use Rattle.std.proofs.lemmas.Option.{get_or_from_slice_get, slice_get-get_or, slice_get_within}
-use Rattle.mum_record.specs.Journal.{Each, IsControl, IsJournal}
-use Rattle.mum_record.specs.declared.journal.ControlEntry.{ControlEntry}
-use Rattle.mum_record.specs.declared.journal.Journal.{Journal}
-use Rattle.mum_record.specs.declared.journal.WorkerEntry.{WorkerEntry}
-use Rattle.mum_record.specs.declared.journal.WorkerEntry.TheVariants.{Closed, Voice}
-use Rattle.mum_record.specs.declared.step.Step.{Step}
-use Rattle.mum_record.specs.declared.step.Step.TheVariants.{Open}
-use Rattle.mum_route.specs.Laws.{HearersAreTheRoute}
-use Rattle.mum_core.specs.declared.connection.Connection.{Connection}
-use Rattle.mum_core.specs.Connection.{fresh}
-use Rattle.mum_core.specs.Core.{CoreState, connection_at, is_opened}
-use Rattle.mum_core.specs.Laws.{IsRun, gathered, ran}
-use Rattle.mum_core.specs.Step.{does, illegal}
-use Rattle.mum_core.specs.Worker.{WorkerState, idle, least_look}
-use Rattle.mum_audit.specs.Audit.{entries_of, is_voice, past_before, past_of}
-use Rattle.mum_audit.specs.Controls.{after_entries, after_entry}
-use Rattle.mum_audit.specs.Legal.{IsLegal, IsRight, revision_of}
-use Rattle.mum_audit.specs.Past.{Past}
-use Rattle.mum_audit.proofs.Pairs.{Rise, each_back, each_front, pairs_of, pairs_rise}
-use Rattle.mum_recording_laws.specs.OfRuns.{LegalJournalsAreOfRuns, first_core}
-use Rattle.mum_recording_laws.specs.Order.{IsInOrder, IsPlaced, IsTimely}
-use Rattle.mum_recording_laws.specs.Orderly.{AreOrderly}
-use Rattle.mum_recording_laws.specs.Recorded.{AreOfRun, Decided, IsDecided, IsRouted, Routed, decided, routed}
-use Rattle.mum_recording_laws.proofs.Joining.{gathered_joined, orderly_joined, run_joined}
-use Rattle.mum_recording_laws.proofs.Following.{begins, follows_quiet}
-use Rattle.mum_recording_laws.proofs.Moving.{IsFree, opened_at, passed}
-use Rattle.mum_recording_laws.proofs.Placing.{idle_at}
-use Rattle.mum_recording_laws.proofs.Playing.{Good, IsGood, plays}
-use Rattle.mum_recording_laws.proofs.Queuing.{Due}
-use Rattle.mum_recording_laws.proofs.Resting.{Ready, Sits}
+use Rattle.mum_recording_laws.proofs.Common.{◌≡◌, ℕ, zero, suc, ◌+◌, ◌-◌, ◌≤◌, ◌<◌, ◌==◌, max, not, Bool, true, false, cond, List, [], ◌∷◌, ◌++◌, length, take, filter, Some, None, refl, sym, ap, subst, ◌∙◌, arith, append_assoc, append-nil, length-append, inl, inr, nat_lt, slice_get, slice_index_or, AllByRecursion, AllZip, filter_map, flat_map, and_parts, cases_eq, eq-eqb, lt-ltb, ltb-true, length-replicate, recursion_from_All, get_or_from_slice_get, slice_get-get_or, slice_get_within, Each, IsControl, IsJournal, ControlEntry, Journal, WorkerEntry, Closed, Voice, Step, Open, HearersAreTheRoute, Connection, fresh, CoreState, connection_at, is_opened, IsRun, gathered, ran, does, illegal, WorkerState, idle, least_look, entries_of, is_voice, past_before, past_of, after_entries, after_entry, IsLegal, IsRight, revision_of, Past, Rise, each_back, each_front, pairs_of, pairs_rise, LegalJournalsAreOfRuns, first_core, IsInOrder, IsPlaced, IsTimely, AreOrderly, AreOfRun, Decided, IsDecided, IsRouted, Routed, decided, routed}
+use Rattle.mum_recording_laws.proofs.{Joining.gathered_joined, Joining.orderly_joined, Joining.run_joined, Following.begins, Following.follows_quiet, Moving.IsFree, Moving.opened_at, Moving.passed, Placing.idle_at, Playing.Good, Playing.IsGood, Playing.plays, Queuing.Due, Resting.Ready, Resting.Sits}
 
 -- ---- the connections open
 

@@ -1,56 +1,10 @@
 -- What the entries of a run's commands leave is what the run leaves.
-use Rattle.std.proofs.Common.{◌≡◌, ℕ, zero, suc, ◌+◌, ◌-◌, ◌==◌, not, Bool, true, false, cond, List, [], ◌∷◌, ◌++◌, length, take, Option, Some, None, inl, inr, refl, sym, ap, subst, ◌∙◌}
-use Rattle.std.specs.Prelude.{⊤, is_none, nat_eq, nat_lt, option_to_list, slice_get, slice_index_or}
-use Rattle.std.specs.List.{AllZip}
-use Rattle.std.specs.Map.{lookup}
-use Rattle.std.specs.Option.{option_map, option_map_or, option_or}
-use Rattle.std.proofs.lemmas.Bool.{and_parts, eq-eqb, eqb-true, false≢true, ne_eqb}
-use Rattle.indexmap.specs.IndexMap.{insert_entry}
-use Rattle.mum_base.specs.declared.number.SessionId.{SessionId}
-use Rattle.mum_base.specs.declared.reply.ReplyEnd.{ReplyEnd}
-use Rattle.mum_base.specs.declared.reply.ReplyEnd.TheVariants.{Decided as Answered, Joined, Rejected}
-use Rattle.mum_record.specs.declared.journal.ControlEntry.{ControlEntry}
-use Rattle.mum_record.specs.declared.journal.Journal.{Journal}
-use Rattle.mum_record.specs.declared.step.Step.{Step}
+use Rattle.mum_recording_laws.proofs.Common.{◌≡◌, ℕ, zero, suc, ◌+◌, ◌-◌, ◌==◌, not, Bool, true, false, cond, List, [], ◌∷◌, ◌++◌, length, take, Option, Some, None, inl, inr, refl, sym, ap, subst, ◌∙◌, ⊤, is_none, nat_eq, nat_lt, option_to_list, slice_get, slice_index_or, AllZip, lookup, option_map, option_map_or, option_or, and_parts, eq-eqb, eqb-true, false≢true, ne_eqb, insert_entry, SessionId, ReplyEnd, Answered, Joined, Rejected, ControlEntry, Journal, Step, Close, Collect, Drain, End, Frame, Look, Offer, Open, Post, Publish, Tell, user_reasons, Leave, mark, reply_end, edits_of, verdict, Asked, User, Message, led_to, StateValue, Edit, Verdict, Ignored, first_standing, reason_code, Reason, NotLoggedIn, Connection, LeaveStage, Seat, answered, fresh, leave_waiting, next_command, next_of_frame, session_of, CoreState, connection_at, current, is_opened, up, IsRun, gathered, ran, seat_in, seat_of, does, frame_action, frame_version, illegal, verdict_seats, placed, drain_keeps, collect_keeps, frame_keeps, none_stands, not_false, notes_keep, posted_keeps, puts_keep, same_opening, taken_core, told_core, past_before, after_entries, after_entry, mark_on, verdict_on, Past, after_verdict, session_in, with_login, first_core, Decided, IsDecided, command_of, decided}
+use Rattle.mum_recording_laws.proofs.{Deciding.decided_so, Sitting.AreCalm, Sitting.IsCalm, Sitting.answered_session, Sitting.calm_step, Sitting.changed_apart, Sitting.changed_here, Sitting.session_stays}
 use Rattle.mum_record.specs.declared.step.Step.TheVariants as steps
-use Rattle.mum_record.specs.declared.step.Step.TheVariants.{Close, Collect, Drain, End, Frame, Look, Offer, Open, Post, Publish, Tell}
-use Rattle.mum_rules_user.specs.Reasons.{reasons as user_reasons}
-use Rattle.mum_rules_user.specs.declared.message.UserMessage.TheVariants.{Leave}
-use Rattle.mum_session.specs.Reply.{mark, reply_end}
-use Rattle.mum_session.specs.Verdict.{edits_of, verdict}
-use Rattle.mum_session.specs.declared.command.Asked.{Asked}
-use Rattle.mum_session.specs.declared.command.Asked.TheVariants.{User}
-use Rattle.mum_session.specs.declared.heard.Heard.TheVariants.{Message}
-use Rattle.mum_state.specs.After.{led_to}
-use Rattle.mum_state.specs.State.{StateValue}
-use Rattle.mum_state.specs.declared.edit.Edit.{Edit}
-use Rattle.mum_state.specs.declared.verdict.Verdict.{Verdict}
-use Rattle.mum_state.specs.declared.verdict.Verdict.TheVariants.{Ignored}
-use Rattle.mum_rules_tree.specs.Decision.{first_standing}
-use Rattle.mum_base.specs.Codes.{reason_code}
-use Rattle.mum_base.specs.declared.outcome.Reason.{Reason}
-use Rattle.mum_base.specs.declared.outcome.Reason.TheVariants.{NotLoggedIn}
-use Rattle.mum_core.specs.declared.connection.Connection.{Connection}
-use Rattle.mum_core.specs.declared.connection.Leave.{Leave as LeaveStage}
 use Rattle.mum_core.specs.declared.connection.Leave.TheVariants as leaves
-use Rattle.mum_core.specs.declared.connection.Seat.{Seat}
-use Rattle.mum_core.specs.Connection.{answered, fresh, leave_waiting, next_command, next_of_frame, session_of}
-use Rattle.mum_core.specs.Core.{CoreState, connection_at, current, is_opened, up}
-use Rattle.mum_core.specs.Laws.{IsRun, gathered, ran}
-use Rattle.mum_core.specs.Reply.{seat_in, seat_of}
-use Rattle.mum_core.specs.Step.{does, frame_action, frame_version, illegal}
 use Rattle.mum_core.specs.steps.Edit as edit_step
 use Rattle.mum_core.specs.steps.Offer as offer_step
-use Rattle.mum_core.proofs.Lower.{verdict_seats}
-use Rattle.mum_core.proofs.Places.{placed}
-use Rattle.mum_core.proofs.RunLaws.{drain_keeps, collect_keeps, frame_keeps, none_stands, not_false, notes_keep, posted_keeps, puts_keep, same_opening, taken_core, told_core}
-use Rattle.mum_audit.specs.Audit.{past_before}
-use Rattle.mum_audit.specs.Controls.{after_entries, after_entry, mark_on, verdict_on}
-use Rattle.mum_audit.specs.Past.{Past, after_verdict, session_of as session_in, with_login}
-use Rattle.mum_recording_laws.specs.OfRuns.{first_core}
-use Rattle.mum_recording_laws.specs.Recorded.{Decided, IsDecided, command_of, decided}
-use Rattle.mum_recording_laws.proofs.Deciding.{decided_so}
-use Rattle.mum_recording_laws.proofs.Sitting.{AreCalm, IsCalm, answered_session, calm_step, changed_apart, changed_here, session_stays}
 
 -- what the entries so far leave is what the core has
 pub record Follows (core : CoreState) (past : Past) : Type 0 where
@@ -261,7 +215,7 @@ may_decide core c allowed =
     let second = none_stands (is_none (next_command (connection_at core c))) _ _ first.1 in
     record { opened = not_false (is_opened core c) first.0; some = second.0 }
 
--- the run behind a step
+-- the run after a step
 abbrev Rest : CoreState → List Step → Type 0
 Rest core run =
     (past : Past) (entries : List ControlEntry) → Follows core past → AreCalm core → IsRun core run → AllZip IsDecided entries (gathered decided core run) → Told (ran core run) past entries

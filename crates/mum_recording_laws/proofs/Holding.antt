@@ -1,38 +1,12 @@
 -- In orderly runs a packet that is held is of a connection that is open.
-use Rattle.std.proofs.Common.{◌≡◌, ℕ, ◌+◌, ◌-◌, ◌⊎◌, max, not, true, List, length, drop, Option, Some, None, Result, Ok, Err, refl, sym, ap, subst, ◌∙◌, inl, inr}
-use Rattle.std.specs.Prelude.{⊤, IfSome, is_some, nat_lt, slice_index_or}
-use Rattle.std.specs.Option.{option_map}
-use Rattle.std.proofs.lemmas.Bool.{and_parts, ltb-true}
-use Rattle.mum_voice.specs.Packet.{Parts, packet}
-use Rattle.mum_voice.specs.declared.fault.BadVoice.{BadVoice}
-use Rattle.mum_record.specs.declared.step.Step.{Step}
+use Rattle.mum_recording_laws.proofs.Common.{◌≡◌, ℕ, ◌+◌, ◌-◌, ◌⊎◌, max, not, true, List, length, drop, Option, Some, None, Result, Ok, Err, refl, sym, ap, subst, ◌∙◌, inl, inr, ⊤, IfSome, is_some, nat_lt, slice_index_or, option_map, and_parts, ltb-true, Parts, packet, BadVoice, Step, Close, Collect, Drain, End, Frame, Look, Offer, Open, Post, Publish, Tell, Action, Ask, Keep, Asked, Verdict, Connection, Reply, Seat, answered, next_of_frame, CoreState, connection_at, is_opened, worker_at, changed_at, does, frame_action, frame_version, illegal, HeldPacket, WorkerState, idle, spoken, changed-by, length-changed, Change, at_place, change_by, change_of, change_to, conn, each_step, place_stays, placed, collect_workers, decided_workers, drain_workers, none_stands, not_false, posted_workers, puts_workers, taken_core, told_core, AreSettled, IsOf, Source, IsOrderly}
+use Rattle.mum_session.specs.declared.action.Action.TheVariants.{Voice}
+use Rattle.mum_recording_laws.proofs.{Options.none_some, Options.none_there, Options.same_some, Placing.seat_stays}
 use Rattle.mum_record.specs.declared.step.Step.TheVariants as steps
-use Rattle.mum_record.specs.declared.step.Step.TheVariants.{Close, Collect, Drain, End, Frame, Look, Offer, Open, Post, Publish, Tell}
-use Rattle.mum_session.specs.declared.action.Action.{Action}
-use Rattle.mum_session.specs.declared.action.Action.TheVariants.{Ask, Keep, Voice}
-use Rattle.mum_session.specs.declared.command.Asked.{Asked}
-use Rattle.mum_state.specs.declared.verdict.Verdict.{Verdict}
-use Rattle.mum_core.specs.declared.connection.Connection.{Connection}
-use Rattle.mum_core.specs.declared.connection.Reply.{Reply}
-use Rattle.mum_core.specs.declared.connection.Seat.{Seat}
-use Rattle.mum_core.specs.Connection.{answered, next_of_frame}
-use Rattle.mum_core.specs.Core.{CoreState, connection_at, is_opened, worker_at}
-use Rattle.mum_core.specs.Lists.{changed_at}
-use Rattle.mum_core.specs.Step.{does, frame_action, frame_version, illegal}
-use Rattle.mum_core.specs.Worker.{HeldPacket, WorkerState, idle}
 use Rattle.mum_core.specs.steps.Edit as edit_step
 use Rattle.mum_core.specs.steps.Frame as frame_step
-use Rattle.mum_core.specs.steps.Frame.{spoken}
 use Rattle.mum_core.specs.steps.Offer as offer_step
 use Rattle.mum_core.specs.steps.Tell as tell_step
-use Rattle.mum_core.proofs.Changed.{changed-by, length-changed}
-use Rattle.mum_core.proofs.Places.{Change, at_place, change_by, change_of, change_to, conn, each_step, place_stays, placed}
-use Rattle.mum_core.proofs.RunLaws.{collect_workers, decided_workers, drain_workers, none_stands, not_false, posted_workers, puts_workers, taken_core, told_core}
-use Rattle.mum_core.proofs.Settled.{AreSettled}
-use Rattle.mum_core.proofs.Speakers.{IsOf, Source}
-use Rattle.mum_recording_laws.specs.Orderly.{IsOrderly}
-use Rattle.mum_recording_laws.proofs.Options.{none_some, none_there, same_some}
-use Rattle.mum_recording_laws.proofs.Placing.{seat_stays}
 
 -- ---- no step makes or takes a worker
 

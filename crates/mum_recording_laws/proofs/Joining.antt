@@ -1,10 +1,5 @@
--- Runs one behind the other.
-use Rattle.std.proofs.Common.{◌≡◌, List, [], ◌∷◌, ◌++◌, refl, sym, ap, ◌∙◌, append_assoc}
-use Rattle.mum_record.specs.declared.step.Step.{Step}
-use Rattle.mum_core.specs.Core.{CoreState}
-use Rattle.mum_core.specs.Laws.{IsRun, gathered, ran}
-use Rattle.mum_core.specs.Step.{does}
-use Rattle.mum_recording_laws.specs.Orderly.{AreOrderly}
+-- Runs one after the other.
+use Rattle.mum_recording_laws.proofs.Common.{◌≡◌, List, [], ◌∷◌, ◌++◌, refl, sym, ap, ◌∙◌, append_assoc, Step, CoreState, IsRun, gathered, ran, does, AreOrderly}
 
 pub run_joined : (core : CoreState) (one two : List Step) → IsRun core one → IsRun (ran core one) two → IsRun core (one ++ two)
 run_joined core [] two first second = second

@@ -1,55 +1,11 @@
 -- What the entries of a run say of a connection is so of the connection.
-use Rattle.std.proofs.Common.{◌≡◌, ℕ, ◌+◌, ◌==◌, ◌&&◌, ◌||◌, ◌⊎◌, not, Bool, true, false, cond, List, [], ◌∷◌, ◌++◌, Option, Some, None, refl, sym, ap, subst, ◌∙◌, inl, inr}
-use Rattle.std.specs.Prelude.{IfSome, IsTrue, is_none, is_some}
-use Rattle.std.specs.List.{list_any}
-use Rattle.std.specs.Option.{option_map, option_map_or, option_or}
-use Rattle.std.proofs.lemmas.Bool.{and_parts, eqb-true, false≢true, or_left, or_parts}
-use Rattle.std.proofs.lemmas.List.Folds.{list_any-append}
-use Rattle.mum_frame.specs.Frame.{kind_of, payload_of}
-use Rattle.mum_frame.specs.declared.kind.TheConstants.{AUTHENTICATE}
-use Rattle.mum_base.specs.Codes.{reason_code}
-use Rattle.mum_base.specs.declared.number.SessionId.{SessionId}
-use Rattle.mum_base.specs.declared.outcome.Reason.{Reason}
-use Rattle.mum_base.specs.declared.outcome.Reason.TheVariants.{NotLoggedIn}
-use Rattle.mum_record.specs.Journal.{may_carry}
-use Rattle.mum_record.specs.declared.journal.ControlEntry.{ControlEntry}
-use Rattle.mum_record.specs.declared.step.Step.{Step}
+use Rattle.mum_recording_laws.proofs.Common.{◌≡◌, ℕ, ◌+◌, ◌==◌, ◌&&◌, ◌||◌, ◌⊎◌, not, Bool, true, false, cond, List, [], ◌∷◌, ◌++◌, Option, Some, None, refl, sym, ap, subst, ◌∙◌, inl, inr, IfSome, IsTrue, is_none, is_some, list_any, option_map, option_map_or, option_or, and_parts, eqb-true, false≢true, or_left, or_parts, list_any-append, kind_of, payload_of, AUTHENTICATE, reason_code, SessionId, Reason, NotLoggedIn, may_carry, ControlEntry, Step, Close, Collect, Drain, End, Frame, Look, Offer, Open, Post, Publish, Tell, first_standing, user_reasons, Leave, action, after_frame, mark, verdict, Action, Ask, Keep, Asked, User, Message, StateValue, Verdict, Ignored, Connection, LeaveStage, Reply, Seat, closed_at, followed, fresh, is_rejected, lagging, leaving_of, leads, next_of_frame, rejects_by, seat_given, told, CoreState, connection_at, is_opened, up, machine_of, does, frame_action, frame_version, illegal, Change, at_place, change_by, change_of, change_to, conn, each_step, none_stands, has_version, leaves, rejects, command_of, frame_heard}
+use Rattle.mum_recording_laws.proofs.{Options.none_there, Suiting.IsLogin, Suiting.Suits, Suiting.asks_so, Suiting.heard_as, Suiting.login_of, Suiting.suits_seated, Suiting.version_stays, Seated.not_rejected, Seated.plain_verdict, Sitting.IsNotBy}
 use Rattle.mum_record.specs.declared.step.Step.TheVariants as steps
-use Rattle.mum_record.specs.declared.step.Step.TheVariants.{Close, Collect, Drain, End, Frame, Look, Offer, Open, Post, Publish, Tell}
-use Rattle.mum_rules_tree.specs.Decision.{first_standing}
-use Rattle.mum_rules_user.specs.Reasons.{reasons as user_reasons}
-use Rattle.mum_rules_user.specs.declared.message.UserMessage.TheVariants.{Leave}
-use Rattle.mum_session.specs.Action.{action, after_frame}
-use Rattle.mum_session.specs.Reply.{mark}
-use Rattle.mum_session.specs.Verdict.{verdict}
-use Rattle.mum_session.specs.declared.action.Action.{Action}
-use Rattle.mum_session.specs.declared.action.Action.TheVariants.{Ask, Keep}
-use Rattle.mum_session.specs.declared.command.Asked.{Asked}
-use Rattle.mum_session.specs.declared.command.Asked.TheVariants.{User}
-use Rattle.mum_session.specs.declared.heard.Heard.TheVariants.{Message}
-use Rattle.mum_state.specs.State.{StateValue}
-use Rattle.mum_state.specs.declared.verdict.Verdict.{Verdict}
-use Rattle.mum_state.specs.declared.verdict.Verdict.TheVariants.{Ignored}
-use Rattle.mum_core.specs.declared.connection.Connection.{Connection}
-use Rattle.mum_core.specs.declared.connection.Leave.{Leave as LeaveStage}
 use Rattle.mum_core.specs.declared.connection.Leave.TheVariants as leaving
-use Rattle.mum_core.specs.declared.connection.Reply.{Reply}
-use Rattle.mum_core.specs.declared.connection.Seat.{Seat}
-use Rattle.mum_core.specs.Connection.{closed_at, followed, fresh, is_rejected, lagging, leaving as leaving_of, leads, next_of_frame, rejects as rejects_by, seat_given, told}
-use Rattle.mum_core.specs.Core.{CoreState, connection_at, is_opened, up}
-use Rattle.mum_core.specs.Machine.{machine_of}
-use Rattle.mum_core.specs.Step.{does, frame_action, frame_version, illegal}
 use Rattle.mum_core.specs.steps.Edit as edit_step
-use Rattle.mum_core.proofs.Places.{Change, at_place, change_by, change_of, change_to, conn, each_step}
-use Rattle.mum_core.proofs.RunLaws.{none_stands}
-use Rattle.mum_recording_laws.specs.Order.{has_version, leaves, rejects}
-use Rattle.mum_recording_laws.specs.Recorded.{command_of, frame_heard}
-use Rattle.mum_recording_laws.proofs.Options.{none_there}
-use Rattle.mum_recording_laws.proofs.Suiting.{IsLogin, Suits, asks_so, heard_as, login_of, suits_seated, version_stays}
-use Rattle.mum_recording_laws.proofs.Seated.{not_rejected, plain_verdict}
-use Rattle.mum_recording_laws.proofs.Sitting.{IsNotBy}
 
--- ---- what is known of a connection behind entries
+-- ---- what is known of a connection after entries
 
 abbrev pub IsTurned : Connection → Type 0
 IsTurned x = (x.rejected || rejects_by x.decided) ≡ true

@@ -1,24 +1,8 @@
--- In orderly runs nothing is decided of a connection behind its leave.
-use Rattle.std.proofs.Common.{◌≡◌, ℕ, ◌+◌, Bool, true, false, cond, Option, Some, None, refl, sym, ap, subst, ◌∙◌}
-use Rattle.std.specs.Prelude.{IfSome, is_some}
-use Rattle.std.specs.Option.{option_map}
-use Rattle.mum_record.specs.declared.step.Step.{Step}
+-- In orderly runs nothing is decided of a connection after its leave.
+use Rattle.mum_recording_laws.proofs.Common.{◌≡◌, ℕ, ◌+◌, Bool, true, false, cond, Option, Some, None, refl, sym, ap, subst, ◌∙◌, IfSome, is_some, option_map, Step, Close, Frame, Tell, Action, Ask, Keep, Asked, Verdict, Connection, Leads, Stays, Waits, Reply, answered, closed_at, followed, fresh, lagging, leads, leaving, next_of_frame, CoreState, connection_at, up, does, frame_action, frame_version, Change, at_place, change_by, change_of, change_to, conn, each_step, IsOrderly}
+use Rattle.mum_core.specs.declared.connection.Leave.{Leave, TheVariants.Decided}
 use Rattle.mum_record.specs.declared.step.Step.TheVariants as steps
-use Rattle.mum_record.specs.declared.step.Step.TheVariants.{Close, Frame, Tell}
-use Rattle.mum_session.specs.declared.action.Action.{Action}
-use Rattle.mum_session.specs.declared.action.Action.TheVariants.{Ask, Keep}
-use Rattle.mum_session.specs.declared.command.Asked.{Asked}
-use Rattle.mum_state.specs.declared.verdict.Verdict.{Verdict}
-use Rattle.mum_core.specs.declared.connection.Connection.{Connection}
-use Rattle.mum_core.specs.declared.connection.Leave.{Leave}
-use Rattle.mum_core.specs.declared.connection.Leave.TheVariants.{Decided, Leads, Stays, Waits}
-use Rattle.mum_core.specs.declared.connection.Reply.{Reply}
-use Rattle.mum_core.specs.Connection.{answered, closed_at, followed, fresh, lagging, leads, leaving, next_of_frame}
-use Rattle.mum_core.specs.Core.{CoreState, connection_at, up}
-use Rattle.mum_core.specs.Step.{does, frame_action, frame_version}
 use Rattle.mum_core.specs.steps.Edit as edit_step
-use Rattle.mum_core.proofs.Places.{Change, at_place, change_by, change_of, change_to, conn, each_step}
-use Rattle.mum_recording_laws.specs.Orderly.{IsOrderly}
 
 -- a leave leads no command, and once it is decided none waits, and the connection is closed
 pub record Departs (x : Connection) : Type 0 where

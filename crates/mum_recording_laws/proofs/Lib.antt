@@ -1,3 +1,4 @@
+mod Common
 pub mod Options
 pub mod Deciding
 pub mod Sitting

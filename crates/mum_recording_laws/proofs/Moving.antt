@@ -1,17 +1,5 @@
 -- A step that changes one connection, and when it is allowed.
-use Rattle.std.proofs.Common.{◌≡◌, ℕ, ◌-◌, ◌≤◌, ◌<◌, ◌&&◌, ◌||◌, Bool, true, false, cond, List, [], length, Option, Some, None, refl, sym, ap, ◌∙◌, arith}
-use Rattle.std.specs.Prelude.{is_some, nat_lt, not, slice_index_or}
-use Rattle.std.proofs.lemmas.Bool.{false≢true, lt-ltb, ltb-false}
-use Rattle.std.proofs.lemmas.List.{get_or_past}
-use Rattle.mum_record.specs.declared.step.Step.TheVariants.{Frame}
-use Rattle.mum_core.specs.declared.connection.Connection.{Connection}
-use Rattle.mum_core.specs.declared.worker.Outgoing.{Outgoing}
-use Rattle.mum_core.specs.Connection.{fresh, is_untold}
-use Rattle.mum_core.specs.Core.{CoreState, at_connection, connection_at, is_opened, worker_at}
-use Rattle.mum_core.specs.Lists.{changed_at}
-use Rattle.mum_core.specs.Step.{illegal}
-use Rattle.mum_core.specs.Worker.{HeldPacket, WorkerState, in_hand}
-use Rattle.mum_core.proofs.Changed.{length-changed}
+use Rattle.mum_recording_laws.proofs.Common.{◌≡◌, ℕ, ◌-◌, ◌≤◌, ◌<◌, ◌&&◌, ◌||◌, Bool, true, false, cond, List, [], length, Option, Some, None, refl, sym, ap, ◌∙◌, arith, is_some, nat_lt, not, slice_index_or, false≢true, lt-ltb, ltb-false, get_or_past, Frame, Connection, Outgoing, fresh, is_untold, CoreState, at_connection, connection_at, is_opened, worker_at, changed_at, illegal, HeldPacket, WorkerState, in_hand, length-changed}
 use Rattle.mum_recording_laws.proofs.Sitting.{changed_apart, changed_here}
 
 -- ---- one connection changes
@@ -71,7 +59,7 @@ pub passed : (b : Bool) (numbers : ℕ × ℕ) (rest : Option (ℕ × ℕ)) → 
 passed true numbers rest off none = cc
 passed false numbers rest off none = none
 
--- ---- a worker with nothing in hand, that was told no revision above this one
+-- ---- a worker with nothing in hand, that was reported of no revision above this one
 
 pub record IsFree (most : ℕ) (worker : WorkerState) : Type 0 where
   pub held : worker.held ≡ None
@@ -83,11 +71,11 @@ no_hands most worker free =
     ap (λ (o : Option HeldPacket). nat_lt 0 (cond (is_some o) 1 (length worker.copies))) free.held
     ∙ ap (λ (copies : List Outgoing). nat_lt 0 (length copies)) free.copies
 
--- more may be told
+-- more may be reported
 pub free_more : (most more : ℕ) (worker : WorkerState) → most ≤ more → IsFree most worker → IsFree more worker
 free_more most more worker low free = let told = free.told in record { held = free.held; copies = free.copies; told = omega (arith, low, told) }
 
--- a worker that was at most told something
+-- a worker that was at most notified of something
 pub record Alike (old new : WorkerState) : Type 0 where
   pub held : new.held ≡ old.held
   pub copies : new.copies ≡ old.copies

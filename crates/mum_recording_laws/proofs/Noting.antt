@@ -1,44 +1,9 @@
 -- What a run decides could be asked for.
-use Rattle.std.proofs.Common.{◌≡◌, ℕ, zero, suc, ◌+◌, ◌-◌, ◌<◌, ◌==◌, true, false, List, [], ◌∷◌, ◌++◌, length, take, Option, Some, None, refl, sym, ap, subst, ◌∙◌, arith, inl, inr, append_assoc, append-nil}
-use Rattle.std.specs.Prelude.{⊤, IfSome, IsTrue, is_none, is_some, nat_lt, option_to_list, slice_get}
-use Rattle.std.specs.List.{AllByRecursion, AllZip, list_any}
-use Rattle.std.specs.Option.{option_map, option_or}
-use Rattle.std.proofs.lemmas.Bool.{and_parts, cases_eq, false_from_ne_true, false≢true, ltb-true, ne_eqb, or_right}
-use Rattle.mum_frame.specs.Frame.{kind_of, payload_of}
-use Rattle.mum_record.specs.Journal.{Each, IsControl, IsJournal, may_carry}
-use Rattle.mum_record.specs.declared.journal.Journal.{Journal}
-use Rattle.mum_record.specs.declared.journal.ControlEntry.{ControlEntry}
-use Rattle.mum_record.specs.declared.step.Step.{Step}
+use Rattle.mum_recording_laws.proofs.Common.{◌≡◌, ℕ, zero, suc, ◌+◌, ◌-◌, ◌<◌, ◌==◌, true, false, List, [], ◌∷◌, ◌++◌, length, take, Option, Some, None, refl, sym, ap, subst, ◌∙◌, arith, inl, inr, append_assoc, append-nil, ⊤, IfSome, IsTrue, is_none, is_some, nat_lt, option_to_list, slice_get, AllByRecursion, AllZip, list_any, option_map, option_or, and_parts, cases_eq, false_from_ne_true, false≢true, ltb-true, ne_eqb, or_right, kind_of, payload_of, Each, IsControl, IsJournal, may_carry, Journal, ControlEntry, Step, Close, Collect, Drain, End, Frame, Look, Offer, Open, Post, Publish, Tell, Leave, mark, verdict, Asked, User, Message, Connection, LeaveStage, Reply, Seat, answered, is_rejected, leave_waiting, next_command, next_of_frame, seat_given, session_of, CoreState, connection_at, current, is_opened, IsRun, gathered, does, illegal, at_place, conn, placed, past_before, after_entries, after_entry, Past, session_in, first_core, AreAsked, IsAsked, IsCommand, has_version, leaves, rejects, AreOfRun, IsDecided, command_of, decided, frame_heard}
+use Rattle.mum_recording_laws.proofs.{Knowing.AreKnown, Knowing.Known, Knowing.either, Knowing.known_on, Knowing.leave_not_rejected, Knowing.leave_only, Knowing.more_seats, Knowing.not_leave, Knowing.others_known, Knowing.own_part, Knowing.version_of_login, Knowing.waiting_is, Options.none_some, Options.same_some, Options.some_mapped, Following.Follows, Following.MayDecide, Following.begins, Following.does_is, Following.follows_entry, Following.follows_quiet, Following.may_decide, Following.only_leave, Following.told_of, Suiting.IsLogin, Suiting.Suits, Suiting.heard_as, Suiting.login_of, Suiting.suits_later, Suiting.suits_login, Sitting.AreCalm, Sitting.IsNotBy, Sitting.calm_step, Sitting.changed_here}
 use Rattle.mum_record.specs.declared.step.Step.TheVariants as steps
-use Rattle.mum_record.specs.declared.step.Step.TheVariants.{Close, Collect, Drain, End, Frame, Look, Offer, Open, Post, Publish, Tell}
-use Rattle.mum_rules_user.specs.declared.message.UserMessage.TheVariants.{Leave}
-use Rattle.mum_session.specs.Reply.{mark}
-use Rattle.mum_session.specs.Verdict.{verdict}
-use Rattle.mum_session.specs.declared.command.Asked.{Asked}
-use Rattle.mum_session.specs.declared.command.Asked.TheVariants.{User}
-use Rattle.mum_session.specs.declared.heard.Heard.TheVariants.{Message}
-use Rattle.mum_core.specs.declared.connection.Connection.{Connection}
-use Rattle.mum_core.specs.declared.connection.Leave.{Leave as LeaveStage}
 use Rattle.mum_core.specs.declared.connection.Leave.TheVariants as leaving
-use Rattle.mum_core.specs.declared.connection.Reply.{Reply}
-use Rattle.mum_core.specs.declared.connection.Seat.{Seat}
-use Rattle.mum_core.specs.Connection.{answered, is_rejected, leave_waiting, next_command, next_of_frame, seat_given, session_of}
-use Rattle.mum_core.specs.Core.{CoreState, connection_at, current, is_opened}
-use Rattle.mum_core.specs.Laws.{IsRun, gathered}
-use Rattle.mum_core.specs.Step.{does, illegal}
 use Rattle.mum_core.specs.steps.Edit as edit_step
-use Rattle.mum_core.proofs.Places.{at_place, conn, placed}
-use Rattle.mum_audit.specs.Audit.{past_before}
-use Rattle.mum_audit.specs.Controls.{after_entries, after_entry}
-use Rattle.mum_audit.specs.Past.{Past, session_of as session_in}
-use Rattle.mum_recording_laws.specs.OfRuns.{first_core}
-use Rattle.mum_recording_laws.specs.Order.{AreAsked, IsAsked, IsCommand, has_version, leaves, rejects}
-use Rattle.mum_recording_laws.specs.Recorded.{AreOfRun, IsDecided, command_of, decided, frame_heard}
-use Rattle.mum_recording_laws.proofs.Knowing.{AreKnown, Known, either, known_on, leave_not_rejected, leave_only, more_seats, not_leave, others_known, own_part, version_of_login, waiting_is}
-use Rattle.mum_recording_laws.proofs.Options.{none_some, same_some, some_mapped}
-use Rattle.mum_recording_laws.proofs.Following.{Follows, MayDecide, begins, does_is, follows_entry, follows_quiet, may_decide, only_leave, told_of}
-use Rattle.mum_recording_laws.proofs.Suiting.{IsLogin, Suits, heard_as, login_of, suits_later, suits_login}
-use Rattle.mum_recording_laws.proofs.Sitting.{AreCalm, IsNotBy, calm_step, changed_here}
 
 module _ (core : CoreState) (past : Past) (earlier : List ControlEntry) (c : ℕ) (what : Asked) (entry : ControlEntry) (known : Known earlier c (connection_at core c)) (opened : is_opened core c ≡ true)
     (next : next_command (connection_at core c) ≡ Some what) (says : IsDecided entry (told_of core c what)) (carried : IsTrue (may_carry entry.version entry.frame)) (follows : Follows core past) where

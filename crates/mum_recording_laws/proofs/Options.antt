@@ -1,8 +1,5 @@
 -- Options that are there, or not.
-use Rattle.std.proofs.Common.{◌≡◌, Option, Some, None, refl, sym, true, false}
-use Rattle.std.specs.Prelude.{is_some}
-use Rattle.std.specs.Option.{option_map}
-use Rattle.std.proofs.lemmas.Bool.{false≢true}
+use Rattle.mum_recording_laws.proofs.Common.{◌≡◌, Option, Some, None, refl, sym, true, false, is_some, option_map, false≢true}
 
 pub none_there : {A : Type 0} (o : Option A) → is_some o ≡ false → o ≡ None
 none_there None is = refl

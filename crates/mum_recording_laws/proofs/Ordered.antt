@@ -1,10 +1,6 @@
 -- What a run decides could be asked for, and its packets are routed by the workers of their connections.
-use Rattle.std.proofs.lemmas.Bool.{false≢true}
-use Rattle.mum_audit.specs.Audit.{past_before}
-use Rattle.mum_recording_laws.specs.OfRuns.{JournalsOfRunsAreAsked, first_core}
-use Rattle.mum_recording_laws.proofs.Following.{begins, follow}
-use Rattle.mum_recording_laws.proofs.Noting.{asked_of_run}
-use Rattle.mum_recording_laws.proofs.Placing.{placed_of_run}
+use Rattle.mum_recording_laws.proofs.Common.{false≢true, past_before, JournalsOfRunsAreAsked, first_core}
+use Rattle.mum_recording_laws.proofs.{Following.begins, Following.follow, Noting.asked_of_run, Placing.placed_of_run}
 
 pub journals_asked_lem : JournalsOfRunsAreAsked
 journals_asked_lem journal run written allowed recorded =

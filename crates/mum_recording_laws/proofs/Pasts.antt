@@ -1,15 +1,6 @@
 -- What the entries of a journal leave, place by place.
-use Rattle.std.proofs.Common.{◌≡◌, ℕ, zero, suc, ◌≤◌, ◌<◌, Bool, true, false, List, [], ◌∷◌, ◌++◌, length, take, drop, Option, Some, None, refl, sym, ap, subst, ◌∙◌, arith, inl, inr, length-append}
-use Rattle.std.specs.Prelude.{IsSome, is_some, nat_le, slice_get}
-use Rattle.std.proofs.lemmas.Bool.{cases_eq, leb-false, leb-true}
-use Rattle.mum_base.specs.declared.number.SessionId.{SessionId}
-use Rattle.mum_record.specs.declared.journal.ControlEntry.{ControlEntry}
-use Rattle.mum_record.specs.declared.journal.Journal.{Journal}
-use Rattle.mum_session.specs.Verdict.{edits_of}
-use Rattle.mum_audit.specs.Controls.{after_entries, after_entry, verdict_on}
-use Rattle.mum_audit.specs.Legal.{past_at}
-use Rattle.mum_audit.specs.Past.{Past, session_of}
-use Rattle.mum_recording_laws.specs.Order.{AreAsked}
+use Rattle.mum_recording_laws.proofs.Common.{◌≡◌, ℕ, zero, suc, ◌≤◌, ◌<◌, Bool, true, false, List, [], ◌∷◌, ◌++◌, length, take, drop, Option, Some, None, refl, sym, ap, subst, ◌∙◌, arith, inl, inr, length-append, IsSome, is_some, nat_le, slice_get, cases_eq, leb-false, leb-true, SessionId, ControlEntry, Journal, edits_of, after_entries, after_entry, verdict_on, past_at, Past, AreAsked}
+use Rattle.mum_audit.specs.Past.{session_of}
 use Rattle.mum_recording_laws.proofs.Seated.{keeps_session}
 
 -- ---- one entry more
@@ -83,7 +74,7 @@ module _ (journal : Journal) (asked : AreAsked journal) where
 
   -- ---- where a connection has its session
 
-  -- wherever so many edits are accepted
+  -- wherever n edits are accepted
   abbrev pub LoggedAt : ℕ → ℕ → Type 0
   LoggedAt c least = (i : ℕ) → least ≤ length (past_at journal i).accepted → IsSome (session_of (past_at journal i) c)
 

@@ -1,46 +1,12 @@
 -- The packets that a worker of a run routes are of connections of its own.
-use Rattle.std.proofs.Common.{◌≡◌, ℕ, ◌-◌, ◌==◌, ◌||◌, ◌⊎◌, not, max, Bool, true, false, cond, List, [], ◌∷◌, length, drop, filter, Option, Some, None, refl, sym, ap, subst, ◌∙◌, inl, inr, replicate, zero, suc}
-use Rattle.std.specs.Prelude.{is_none, is_some, nat_lt, option_to_list, slice_index_or}
-use Rattle.std.specs.List.{AllByRecursion, AllZip}
-use Rattle.std.specs.Option.{option_map, option_or}
-use Rattle.std.proofs.lemmas.Bool.{cases_eq, eq-eqb, false≢true}
-use Rattle.mum_base.specs.declared.number.SessionId.{SessionId}
-use Rattle.mum_voice.specs.Packet.{packet}
-use Rattle.mum_opening.specs.Opening.{opening}
-use Rattle.mum_record.specs.Head.{version_with}
-use Rattle.mum_record.specs.declared.journal.Journal.{Journal}
-use Rattle.mum_record.specs.declared.journal.WorkerEntry.{WorkerEntry}
-use Rattle.mum_record.specs.declared.journal.WorkerEntry.TheVariants.{Closed, Voice as VoiceEntry}
-use Rattle.mum_record.specs.declared.step.Step.{Step}
-use Rattle.mum_record.specs.declared.step.Step.TheVariants as steps
-use Rattle.mum_record.specs.declared.step.Step.TheVariants.{Close, Collect, Drain, End, Frame, Look, Offer, Open, Post, Publish, Tell}
-use Rattle.mum_session.specs.declared.action.Action.{Action}
+use Rattle.mum_recording_laws.proofs.Common.{◌≡◌, ℕ, ◌-◌, ◌==◌, ◌||◌, ◌⊎◌, not, max, Bool, true, false, cond, List, [], ◌∷◌, length, drop, filter, Option, Some, None, refl, sym, ap, subst, ◌∙◌, inl, inr, replicate, zero, suc, is_none, is_some, nat_lt, option_to_list, slice_index_or, AllByRecursion, AllZip, option_map, option_or, cases_eq, eq-eqb, false≢true, SessionId, packet, opening, version_with, Journal, WorkerEntry, Closed, VoiceEntry, Step, Close, Collect, Drain, End, Frame, Look, Offer, Open, Post, Publish, Tell, Action, Connection, Seat, fresh, seat_given, session_of, CoreState, connection_at, is_opened, worker_at, IsRun, gathered, packet_taken, ran, does, frame_action, frame_version, illegal, HeldPacket, WorkerState, idle, in_hand, spoken, changed-by, changed_other, conn, place_stays, placed, collect_workers, decided_workers, drain_workers, none_stands, posted_workers, puts_workers, taken_core, told_core, AreSettled, seat_all, settled_start, settled_step, Has, IsOf, Sound, Source, of_speaker, sound_all, sound_start, source, is_voice, past_of, Past, session_in, each_both, first_core, ArePlaced, IsPlaced, AreOfRun, IsRouted, Routed, routed, routed_at}
 use Rattle.mum_session.specs.declared.action.Action.TheVariants.{Voice}
-use Rattle.mum_core.specs.declared.connection.Connection.{Connection}
-use Rattle.mum_core.specs.declared.connection.Seat.{Seat}
-use Rattle.mum_core.specs.Connection.{fresh, seat_given, session_of}
-use Rattle.mum_core.specs.Core.{CoreState, connection_at, is_opened, worker_at}
-use Rattle.mum_core.specs.Laws.{IsRun, gathered, packet_taken, ran}
-use Rattle.mum_core.specs.Step.{does, frame_action, frame_version, illegal}
-use Rattle.mum_core.specs.Worker.{HeldPacket, WorkerState, idle, in_hand}
+use Rattle.mum_recording_laws.proofs.{Options.none_some, Following.Follows}
+use Rattle.mum_record.specs.declared.step.Step.TheVariants as steps
 use Rattle.mum_core.specs.steps.Edit as edit_step
 use Rattle.mum_core.specs.steps.Frame as frame_step
-use Rattle.mum_core.specs.steps.Frame.{spoken}
 use Rattle.mum_core.specs.steps.Offer as offer_step
 use Rattle.mum_core.specs.steps.Tell as tell_step
-use Rattle.mum_core.proofs.Changed.{changed-by, changed_other}
-use Rattle.mum_core.proofs.Places.{conn, place_stays, placed}
-use Rattle.mum_core.proofs.RunLaws.{collect_workers, decided_workers, drain_workers, none_stands, posted_workers, puts_workers, taken_core, told_core}
-use Rattle.mum_core.proofs.Settled.{AreSettled, seat_all, settled_start, settled_step}
-use Rattle.mum_core.proofs.Speakers.{Has, IsOf, Sound, Source, of_speaker, sound_all, sound_start, source}
-use Rattle.mum_audit.specs.Audit.{is_voice, past_of}
-use Rattle.mum_audit.specs.Past.{Past, session_of as session_in}
-use Rattle.mum_audit.proofs.Pairs.{each_both}
-use Rattle.mum_recording_laws.specs.OfRuns.{first_core}
-use Rattle.mum_recording_laws.specs.Order.{ArePlaced, IsPlaced}
-use Rattle.mum_recording_laws.specs.Recorded.{AreOfRun, IsRouted, Routed, routed, routed_at}
-use Rattle.mum_recording_laws.proofs.Options.{none_some}
-use Rattle.mum_recording_laws.proofs.Following.{Follows}
 
 -- ---- what a step leaves of a packet that is held
 

@@ -1,35 +1,6 @@
 -- The entries of a journal, played in a core: its control entries in order, each packet as soon as its revision is there.
-use Rattle.std.proofs.Common.{length-append, ◌≡◌, ℕ, ◌+◌, suc, ◌^◌, ◌≤◌, ◌<◌, Bool, true, false, cond, List, [], ◌∷◌, ◌++◌, length, filter, refl, sym, ap, subst, ◌∙◌, arith, append_assoc, append-nil}
-use Rattle.std.specs.Prelude.{⊤, IfSome, nat_le}
-use Rattle.std.specs.List.{AllByRecursion, AllZip, filter_map, list_any}
-use Rattle.std.proofs.lemmas.Bool.{leb-false, or_from}
-use Rattle.std.proofs.lemmas.List.Folds.{list_any-append}
-use Rattle.mum_record.specs.declared.journal.ControlEntry.{ControlEntry}
-use Rattle.mum_record.specs.declared.journal.WorkerEntry.{WorkerEntry}
-use Rattle.mum_record.specs.declared.journal.WorkerEntry.TheVariants.{Closed, Voice}
-use Rattle.mum_record.specs.declared.step.Step.{Step}
-use Rattle.mum_route.specs.Laws.{HearersAreTheRoute}
-use Rattle.mum_session.specs.Verdict.{edits_of}
-use Rattle.mum_state.specs.declared.edit.Edit.{Edit}
-use Rattle.mum_state.specs.declared.verdict.Verdict.{Verdict}
-use Rattle.mum_state.specs.declared.verdict.Verdict.TheVariants.{Accepted}
-use Rattle.mum_core.specs.Core.{CoreState, is_opened, worker_at}
-use Rattle.mum_core.specs.Laws.{IsRun, gathered, ran}
-use Rattle.mum_core.specs.Worker.{WorkerState, least_look}
-use Rattle.mum_audit.specs.Audit.{is_voice}
-use Rattle.mum_audit.specs.Controls.{after_entries, after_entry, mark_on, verdict_on}
-use Rattle.mum_audit.specs.Legal.{revision_of}
-use Rattle.mum_audit.specs.Past.{Past}
-use Rattle.mum_audit.proofs.Pairs.{Rise}
-use Rattle.mum_recording_laws.specs.Order.{IsAsked, leaves}
-use Rattle.mum_recording_laws.specs.Orderly.{AreOrderly}
-use Rattle.mum_recording_laws.specs.Recorded.{Decided, IsDecided, IsRouted, Routed, decided, routed}
-use Rattle.mum_recording_laws.proofs.Departing.{done}
-use Rattle.mum_recording_laws.proofs.Joining.{gathered_joined, orderly_joined, run_joined}
-use Rattle.mum_recording_laws.proofs.Moving.{Alike, opened_at}
-use Rattle.mum_recording_laws.proofs.Queuing.{Due, Leads, all_route, back, front, parted}
-use Rattle.mum_recording_laws.proofs.Seated.{keeps_session}
-use Rattle.mum_recording_laws.proofs.Resting.{Ready}
+use Rattle.mum_recording_laws.proofs.Common.{length-append, ◌≡◌, ℕ, ◌+◌, suc, ◌^◌, ◌≤◌, ◌<◌, Bool, true, false, cond, List, [], ◌∷◌, ◌++◌, length, filter, refl, sym, ap, subst, ◌∙◌, arith, append_assoc, append-nil, ⊤, IfSome, nat_le, AllByRecursion, AllZip, filter_map, list_any, leb-false, or_from, list_any-append, ControlEntry, WorkerEntry, Closed, Voice, Step, HearersAreTheRoute, edits_of, Edit, Verdict, Accepted, CoreState, is_opened, worker_at, IsRun, gathered, ran, WorkerState, least_look, is_voice, after_entries, after_entry, mark_on, verdict_on, revision_of, Past, Rise, IsAsked, leaves, AreOrderly, Decided, IsDecided, IsRouted, Routed, decided, routed}
+use Rattle.mum_recording_laws.proofs.{Departing.done, Joining.gathered_joined, Joining.orderly_joined, Joining.run_joined, Moving.Alike, Moving.opened_at, Queuing.Due, Queuing.Leads, Queuing.all_route, Queuing.back, Queuing.front, Queuing.parted, Seated.keeps_session, Resting.Ready}
 
 -- ---- the control entries that are left
 
@@ -55,7 +26,7 @@ leads_to n past earlier (entry ∷ entries) good =
       sessions = λ c session has. later.sessions c session (keeps_session past earlier entry c session good.0.asked has);
     }
 
--- ---- the packets that are left behind an entry
+-- ---- the packets that are left after an entry
 
 abbrev IsAbove : ℕ → WorkerEntry → Type 0
 IsAbove most (Voice c revision bytes copies) = most < revision
@@ -123,13 +94,13 @@ zip_joined R [] (y ∷ ys) more others zip rest = absurd zip
 zip_joined R (x ∷ xs) [] more others zip rest = absurd zip
 zip_joined R (x ∷ xs) (y ∷ ys) more others zip rest = (zip.0, zip_joined R xs ys more others zip.1 rest)
 
--- ---- what an entry tells the workers
+-- ---- what an entry reports to the workers
 
 edits_few : (one : Verdict) → length (edits_of one) ≤ 1
 edits_few (Accepted edit) = omega arith
 edits_few others = omega arith
 
--- a worker that was told no more than one edit more looks for what is left
+-- a worker that was reported of no more than one edit more looks for what is left
 pub raised : (most : ℕ) (old new : WorkerState) (ones : List WorkerEntry) → Alike old new → new.told ≤ most + 1 → Rise (least_look old) (filter_map revision_of ones) → AllByRecursion (IsAbove most) ones
     → Rise (least_look new) (filter_map revision_of ones)
 raised most old new [] alike told rise above = tt

@@ -1,43 +1,8 @@
--- Of what a worker routed, what is due where so many edits are accepted.
-use Rattle.std.proofs.Common.{◌≡◌, ℕ, ◌≤◌, ◌<◌, Bool, true, false, cond, List, [], ◌∷◌, ◌++◌, length, take, filter, Option, Some, None, refl, sym, ap, subst, ◌∙◌, arith, zero, suc, inl, inr}
-use Rattle.std.specs.Prelude.{⊤, IsSome, nat_le, slice_get}
-use Rattle.std.specs.List.{AllByRecursion, AllZip, filter_map, list_any}
-use Rattle.std.specs.Option.{option_map, option_or}
-use Rattle.std.proofs.lemmas.Bool.{cases_eq, leb-true}
-use Rattle.std.proofs.lemmas.List.{append-nil, take-append-le}
-use Rattle.mum_base.specs.declared.number.SessionId.{SessionId}
-use Rattle.mum_record.specs.declared.journal.ControlEntry.{ControlEntry}
-use Rattle.mum_record.specs.declared.journal.Marked.{Marked}
-use Rattle.mum_record.specs.declared.journal.WorkerEntry.{WorkerEntry}
-use Rattle.mum_record.specs.declared.journal.WorkerEntry.TheVariants.{Closed, Voice}
-use Rattle.mum_record.specs.declared.step.Step.{Step}
-use Rattle.mum_route.specs.Laws.{HearersAreTheRoute}
-use Rattle.mum_route.specs.Route.{route}
-use Rattle.mum_state.specs.After.{at, led_to}
-use Rattle.mum_state.specs.State.{StateValue}
-use Rattle.mum_state.specs.declared.edit.Edit.{Edit}
-use Rattle.mum_core.specs.declared.connection.Connection.{Connection}
-use Rattle.mum_core.specs.declared.connection.Reply.{Reply}
-use Rattle.mum_core.specs.declared.connection.Seat.{Seat}
-use Rattle.mum_core.specs.Connection.{seat_given}
-use Rattle.mum_core.specs.Core.{CoreState, connection_at, is_opened, state_at, worker_at}
-use Rattle.mum_core.specs.Laws.{IsRun, gathered, ran}
-use Rattle.mum_core.specs.Worker.{HeldPacket, WorkerState, least_look}
-use Rattle.mum_audit.specs.Audit.{is_voice}
-use Rattle.mum_audit.specs.Controls.{after_entries}
-use Rattle.mum_audit.specs.Legal.{IsHeard, revision_of}
-use Rattle.mum_audit.specs.Past.{Past, session_of as session_in}
-use Rattle.mum_audit.proofs.Pairs.{Rise}
-use Rattle.mum_recording_laws.specs.Order.{leaves}
-use Rattle.mum_recording_laws.specs.Orderly.{AreOrderly}
-use Rattle.mum_recording_laws.specs.Recorded.{IsRouted, Routed, decided, routed, routed_at}
-use Rattle.mum_recording_laws.proofs.Options.{same_some, some_there}
-use Rattle.mum_recording_laws.proofs.Joining.{gathered_joined, orderly_joined, ran_joined, run_joined}
-use Rattle.mum_recording_laws.proofs.Moving.{unopened}
-use Rattle.mum_recording_laws.proofs.Resting.{Ready}
-use Rattle.mum_recording_laws.proofs.Voicing.{Said, said}
+-- Of what a worker routed, what is due where n edits are accepted.
+use Rattle.mum_recording_laws.proofs.Common.{◌≡◌, ℕ, ◌≤◌, ◌<◌, Bool, true, false, cond, List, [], ◌∷◌, ◌++◌, length, take, filter, Option, Some, None, refl, sym, ap, subst, ◌∙◌, arith, zero, suc, inl, inr, ⊤, IsSome, nat_le, slice_get, AllByRecursion, AllZip, filter_map, list_any, option_map, option_or, cases_eq, leb-true, append-nil, take-append-le, SessionId, ControlEntry, Marked, WorkerEntry, Closed, Voice, Step, HearersAreTheRoute, route, at, led_to, StateValue, Edit, Connection, Reply, Seat, seat_given, CoreState, connection_at, is_opened, state_at, worker_at, IsRun, gathered, ran, HeldPacket, WorkerState, least_look, is_voice, after_entries, IsHeard, revision_of, Past, session_in, Rise, leaves, AreOrderly, IsRouted, Routed, decided, routed, routed_at}
+use Rattle.mum_recording_laws.proofs.{Options.same_some, Options.some_there, Joining.gathered_joined, Joining.orderly_joined, Joining.ran_joined, Joining.run_joined, Moving.unopened, Resting.Ready, Voicing.Said, Voicing.said}
 
--- ---- the front of the packets that are due, and those behind it
+-- ---- the front of the packets that are due, and those after it
 
 abbrev pub front : ℕ → List WorkerEntry → List WorkerEntry
 front most [] = []
@@ -61,7 +26,7 @@ parted most (Voice c revision bytes copies ∷ entries) = from (parted most entr
 
 -- ---- what is known of them
 
--- a connection has a session where so many edits are accepted, and no leave in between
+-- a connection has a session where n edits are accepted, and no leave in between
 pub record InTime (past : Past) (entries : List ControlEntry) (c revision : ℕ) : Type 0 where
   pub logged_in : (i : ℕ) → revision ≤ length (after_entries past (take i entries)).accepted → IsSome (session_in (after_entries past (take i entries)) c)
   pub there : (i : ℕ) (entry : ControlEntry) → slice_get entries i ≡ Some entry → leaves c entry ≡ true → revision ≤ length (after_entries past (take i entries)).accepted

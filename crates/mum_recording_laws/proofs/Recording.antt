@@ -1,26 +1,6 @@
 -- A journal of a run is legal.
-use Rattle.std.proofs.Common.{◌≡◌, ◌≢◌, ℕ, ◌+◌, ◌≤◌, List, Some, sym, subst, arith}
-use Rattle.std.specs.Prelude.{slice_get, slice_index_or}
-use Rattle.std.specs.List.{AllByRecursion, AllPairs, filter_map}
-use Rattle.std.proofs.lemmas.Bool.{false≢true}
-use Rattle.std.proofs.lemmas.List.Elements.{All-from_recursion}
-use Rattle.std.proofs.lemmas.Option.{slice_get-get_or}
-use Rattle.mum_record.specs.declared.journal.Journal.{Journal}
-use Rattle.mum_record.specs.declared.journal.WorkerEntry.{WorkerEntry}
-use Rattle.mum_route.specs.Laws.{HearersAreTheRoute}
-use Rattle.mum_core.specs.Core.{CoreState, connection_at, worker_at}
-use Rattle.mum_core.specs.Laws.{gathered, ran}
-use Rattle.mum_core.proofs.RunLaws.{IsWithin}
-use Rattle.mum_audit.specs.Audit.{past_before, past_of}
-use Rattle.mum_audit.specs.Legal.{IsRight, closed_by, revision_of}
-use Rattle.mum_audit.specs.Past.{Past}
-use Rattle.mum_audit.proofs.Pairs.{Pairs, all_pairs, each_weaker, rise_pairs}
-use Rattle.mum_recording_laws.specs.OfRuns.{JournalsOfRunsAreLegal, first_core}
-use Rattle.mum_recording_laws.specs.Recorded.{closed, routed}
-use Rattle.mum_recording_laws.proofs.Closing.{all_apart, all_there, once}
-use Rattle.mum_recording_laws.proofs.Following.{begins, each_has, follow}
-use Rattle.mum_recording_laws.proofs.Routing.{all_rightly, each_of, entries_right, revisions_in, rises, same_revisions}
-use Rattle.mum_recording_laws.proofs.Sitting.{AreCalm}
+use Rattle.mum_recording_laws.proofs.Common.{◌≡◌, ◌≢◌, ℕ, ◌+◌, ◌≤◌, List, Some, sym, subst, arith, slice_get, slice_index_or, AllByRecursion, AllPairs, filter_map, false≢true, All-from_recursion, slice_get-get_or, Journal, WorkerEntry, HearersAreTheRoute, CoreState, connection_at, worker_at, gathered, ran, IsWithin, past_before, past_of, IsRight, closed_by, revision_of, Past, Pairs, all_pairs, each_weaker, rise_pairs, JournalsOfRunsAreLegal, first_core, closed, routed}
+use Rattle.mum_recording_laws.proofs.{Closing.all_apart, Closing.all_there, Closing.once, Following.begins, Following.each_has, Following.follow, Routing.all_rightly, Routing.each_of, Routing.entries_right, Routing.revisions_in, Routing.rises, Routing.same_revisions, Sitting.AreCalm}
 
 calm : (journal : Journal) → AreCalm (first_core journal)
 calm journal i waits = absurd (false≢true waits)

@@ -1,19 +1,6 @@
--- Cores in which nothing is underway, behind some of the control entries of a journal.
-use Rattle.std.proofs.Common.{◌≡◌, ℕ, ◌+◌, ◌==◌, ◌&&◌, Bool, true, false, List, [], ◌∷◌, ◌++◌, length, None, refl, sym, ap, subst, ◌∙◌, inl, inr}
-use Rattle.std.specs.Prelude.{is_some}
-use Rattle.std.specs.List.{list_any}
-use Rattle.std.proofs.lemmas.Bool.{cases_eq, eq-eqb, or_parts}
-use Rattle.std.proofs.lemmas.List.Folds.{list_any-append}
-use Rattle.mum_record.specs.declared.journal.ControlEntry.{ControlEntry}
-use Rattle.mum_core.specs.declared.connection.Connection.{Connection}
-use Rattle.mum_core.specs.declared.connection.Leave.TheVariants.{Stays}
-use Rattle.mum_core.specs.Core.{CoreState, connection_at, is_opened, worker_at}
-use Rattle.mum_core.proofs.Places.{at_place}
-use Rattle.mum_audit.specs.Past.{Past}
-use Rattle.mum_recording_laws.specs.Order.{has_version, leaves, rejects}
-use Rattle.mum_recording_laws.proofs.Following.{Follows}
-use Rattle.mum_recording_laws.proofs.Moving.{IsFree, Moves, still_opened}
-use Rattle.mum_recording_laws.proofs.Sitting.{AreCalm}
+-- Cores in which nothing is underway, after some of the control entries of a journal.
+use Rattle.mum_recording_laws.proofs.Common.{◌≡◌, ℕ, ◌+◌, ◌==◌, ◌&&◌, Bool, true, false, List, [], ◌∷◌, ◌++◌, length, None, refl, sym, ap, subst, ◌∙◌, inl, inr, is_some, list_any, cases_eq, eq-eqb, or_parts, list_any-append, ControlEntry, Connection, Stays, CoreState, connection_at, is_opened, worker_at, at_place, Past, has_version, leaves, rejects}
+use Rattle.mum_recording_laws.proofs.{Following.Follows, Moving.IsFree, Moving.Moves, Moving.still_opened, Sitting.AreCalm}
 
 -- ---- connections
 

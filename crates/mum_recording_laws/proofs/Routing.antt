@@ -1,33 +1,6 @@
 -- The packets that a run routes, as the voice entries of workers have them.
-use Rattle.std.proofs.Common.{◌≡◌, ℕ, zero, suc, ◌+◌, ◌≤◌, ◌<◌, ◌==◌, not, Bool, true, false, cond, List, [], ◌∷◌, ◌++◌, length, map, filter, Option, Some, None, refl, sym, ap, subst, ◌∙◌, arith}
-use Rattle.std.specs.Prelude.{nat_lt, option_to_list, slice_get}
-use Rattle.std.specs.List.{AllByRecursion, AllZip, filter_map, flat_map}
-use Rattle.std.specs.Option.{option_map}
-use Rattle.std.proofs.lemmas.Bool.{eqb-true, ltb-true}
-use Rattle.std.proofs.lemmas.List.{length-append}
-use Rattle.mum_record.specs.declared.journal.Marked.{Marked}
-use Rattle.mum_record.specs.declared.journal.WorkerEntry.{WorkerEntry}
-use Rattle.mum_record.specs.declared.journal.WorkerEntry.TheVariants.{Closed, Voice}
-use Rattle.mum_record.specs.declared.step.Step.{Step}
-use Rattle.mum_record.specs.declared.step.Step.TheVariants.{Look}
-use Rattle.mum_route.specs.Laws.{HearersAreTheRoute}
-use Rattle.mum_route.specs.Route.{route}
-use Rattle.mum_state.specs.After.{at}
-use Rattle.mum_state.specs.State.{StateValue}
-use Rattle.mum_state.specs.declared.edit.Edit.{Edit}
-use Rattle.mum_core.specs.Core.{CoreState, state_at, worker_at}
-use Rattle.mum_core.specs.Laws.{IsRun, gathered, ran}
-use Rattle.mum_core.specs.Step.{does, illegal}
-use Rattle.mum_core.specs.Worker.{HeldPacket, idle}
-use Rattle.mum_core.specs.steps.Look.{copies, looked}
-use Rattle.mum_core.proofs.Changed.{changed_same}
-use Rattle.mum_core.proofs.Fitted.{state_stays}
-use Rattle.mum_core.proofs.RunLaws.{IsWithin, accepted_grows, goes_on, looks_are_bounded, none_stands, not_false, within}
-use Rattle.mum_audit.specs.Audit.{is_voice}
-use Rattle.mum_audit.specs.Legal.{IsRight, revision_of}
-use Rattle.mum_audit.specs.Past.{Past, state_at as past_at}
-use Rattle.mum_audit.proofs.Pairs.{Rise, each_both}
-use Rattle.mum_recording_laws.specs.Recorded.{IsRouted, Routed, routed, routed_at}
+use Rattle.mum_recording_laws.proofs.Common.{◌≡◌, ℕ, zero, suc, ◌+◌, ◌≤◌, ◌<◌, ◌==◌, not, Bool, true, false, cond, List, [], ◌∷◌, ◌++◌, length, map, filter, Option, Some, None, refl, sym, ap, subst, ◌∙◌, arith, nat_lt, option_to_list, slice_get, AllByRecursion, AllZip, filter_map, flat_map, option_map, eqb-true, ltb-true, length-append, Marked, WorkerEntry, Closed, Voice, Step, Look, HearersAreTheRoute, route, at, StateValue, Edit, CoreState, state_at, worker_at, IsRun, gathered, ran, does, illegal, HeldPacket, idle, copies, looked, changed_same, state_stays, IsWithin, accepted_grows, goes_on, looks_are_bounded, none_stands, not_false, within, is_voice, IsRight, revision_of, Past, Rise, each_both, IsRouted, Routed, routed, routed_at}
+use Rattle.mum_audit.specs.Past.{state_at as past_at}
 use Rattle.mum_recording_laws.proofs.Following.{Follows}
 
 -- ---- where packets go

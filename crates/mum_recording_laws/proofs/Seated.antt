@@ -1,42 +1,10 @@
 -- Whoever has a session is neither given another nor rejected, so it keeps its session.
-use Rattle.std.proofs.Common.{◌≡◌, ℕ, ◌==◌, Bool, true, false, cond, List, Option, Some, None, refl, sym, ap, subst, ◌∙◌}
-use Rattle.std.specs.Prelude.{is_some}
-use Rattle.std.specs.Option.{option_map, option_or}
-use Rattle.std.proofs.lemmas.Bool.{eqb-true, false≢true}
-use Rattle.mum_base.specs.declared.number.SessionId.{SessionId}
-use Rattle.mum_base.specs.declared.reply.ReplyEnd.{ReplyEnd}
+use Rattle.mum_recording_laws.proofs.Common.{◌≡◌, ℕ, ◌==◌, Bool, true, false, cond, List, Option, Some, None, refl, sym, ap, subst, ◌∙◌, is_some, option_map, option_or, eqb-true, false≢true, SessionId, ReplyEnd, Actor, ControlEntry, Verdict, Answer, granted_where_there, StateValue, first_lack, first_standing, tree_verdict, TreeMessage, UserCommand, user_command, limits, needs, answer_frame, outcome, reasons, actor_for, Leave, mark, reply_end, verdict, Asked, Tree, User, Message, tree_holds, unless, is_rejected, seat_in, seat_of, Seat, after_entry, verdict_on, Past, IsAsked, command_of}
 use Rattle.mum_base.specs.declared.reply.ReplyEnd.TheVariants.{Decided}
-use Rattle.mum_policy.specs.Member.{Actor}
-use Rattle.mum_record.specs.declared.journal.ControlEntry.{ControlEntry}
-use Rattle.mum_state.specs.declared.verdict.Verdict.{Verdict}
-use Rattle.mum_state.specs.declared.verdict.Verdict.TheVariants.{Answer, Rejected}
-use Rattle.mum_state.specs.Permissions.{granted_where_there}
-use Rattle.mum_state.specs.State.{StateValue}
-use Rattle.mum_rules_tree.specs.Decision.{first_lack, first_standing}
-use Rattle.mum_rules_tree.specs.Verdict.{tree_verdict}
-use Rattle.mum_rules_tree.specs.declared.message.TreeMessage.{TreeMessage}
-use Rattle.mum_rules_user.specs.Asked.{Command as UserCommand, command_of as user_command}
-use Rattle.mum_rules_user.specs.Limits.{limits}
-use Rattle.mum_rules_user.specs.Needs.{needs}
-use Rattle.mum_rules_user.specs.Outcome.{answer_frame, outcome}
-use Rattle.mum_rules_user.specs.Reasons.{reasons}
-use Rattle.mum_rules_user.specs.Verdict.{actor_for, command_verdict}
-use Rattle.mum_rules_user.specs.declared.message.UserMessage.TheVariants.{Leave}
-use Rattle.mum_session.specs.Reply.{mark, reply_end}
-use Rattle.mum_session.specs.Verdict.{verdict}
-use Rattle.mum_session.specs.declared.command.Asked.{Asked}
-use Rattle.mum_session.specs.declared.command.Asked.TheVariants.{Tree, User}
-use Rattle.mum_session.specs.declared.heard.Heard.TheVariants.{Message}
-use Rattle.mum_session.proofs.Channels.{tree_holds, unless}
-use Rattle.mum_core.specs.Connection.{is_rejected}
-use Rattle.mum_core.specs.Reply.{seat_in, seat_of}
-use Rattle.mum_core.specs.declared.connection.Seat.{Seat}
-use Rattle.mum_audit.specs.Controls.{after_entry, verdict_on}
-use Rattle.mum_audit.specs.Past.{Past, current, session_of}
-use Rattle.mum_recording_laws.specs.Order.{IsAsked}
-use Rattle.mum_recording_laws.specs.Recorded.{command_of}
-use Rattle.mum_recording_laws.proofs.Deciding.{decided_so}
-use Rattle.mum_recording_laws.proofs.Following.{logged_in}
+use Rattle.mum_state.specs.declared.verdict.Verdict.TheVariants.{Rejected}
+use Rattle.mum_rules_user.specs.Verdict.{command_verdict}
+use Rattle.mum_audit.specs.Past.{current, session_of}
+use Rattle.mum_recording_laws.proofs.{Deciding.decided_so, Following.logged_in}
 
 -- ---- what is decided of who has a session
 

@@ -1,28 +1,8 @@
 -- What becomes of the sessions of connections, step by step.
-use Rattle.std.proofs.Common.{◌≡◌, ℕ, ◌+◌, ◌-◌, ◌<◌, ◌||◌, not, Bool, true, false, cond, List, length, Option, Some, None, refl, sym, ap, ◌∙◌, arith}
-use Rattle.std.specs.Prelude.{⊤, IfSome, is_some, nat_lt, slice_index_or}
-use Rattle.std.specs.Option.{option_map, option_or}
-use Rattle.std.proofs.lemmas.Bool.{and_parts, false≢true, ltb-true, or_parts}
-use Rattle.mum_base.specs.declared.number.SessionId.{SessionId}
-use Rattle.mum_record.specs.declared.step.Step.{Step}
-use Rattle.mum_record.specs.declared.step.Step.TheVariants as steps
-use Rattle.mum_record.specs.declared.step.Step.TheVariants.{Close, Collect, Drain, End, Frame, Look, Offer, Open, Post, Publish, Tell}
-use Rattle.mum_session.specs.declared.action.Action.{Action}
-use Rattle.mum_session.specs.declared.action.Action.TheVariants.{Ask, Keep}
-use Rattle.mum_session.specs.declared.command.Asked.{Asked}
-use Rattle.mum_state.specs.declared.verdict.Verdict.{Verdict}
-use Rattle.mum_core.specs.declared.connection.Connection.{Connection}
-use Rattle.mum_core.specs.declared.connection.Reply.{Reply}
-use Rattle.mum_core.specs.declared.connection.Seat.{Seat}
-use Rattle.mum_core.specs.Connection.{answered, fresh, leads, next_of_frame, seat_given, session_of}
-use Rattle.mum_core.specs.Core.{CoreState, at_connection, connection_at, is_opened}
-use Rattle.mum_core.specs.Lists.{changed_at}
-use Rattle.mum_core.specs.Step.{does, frame_action, frame_version, illegal}
-use Rattle.mum_core.specs.steps.Edit as edit_step
-use Rattle.mum_core.proofs.Changed.{changed_other, changed_same}
-use Rattle.mum_core.proofs.Places.{Change, at_place, change_by, change_of, change_to, conn, each_step, placed}
+use Rattle.mum_recording_laws.proofs.Common.{◌≡◌, ℕ, ◌+◌, ◌-◌, ◌<◌, ◌||◌, not, Bool, true, false, cond, List, length, Option, Some, None, refl, sym, ap, ◌∙◌, arith, ⊤, IfSome, is_some, nat_lt, slice_index_or, option_map, option_or, and_parts, false≢true, ltb-true, or_parts, SessionId, Step, Close, Collect, Drain, End, Frame, Look, Offer, Open, Post, Publish, Tell, Action, Ask, Keep, Asked, Verdict, Connection, Reply, Seat, answered, fresh, leads, next_of_frame, seat_given, session_of, CoreState, at_connection, connection_at, is_opened, changed_at, does, frame_action, frame_version, illegal, changed_other, changed_same, Change, at_place, change_by, change_of, change_to, conn, each_step, placed, none_stands}
 use Rattle.mum_recording_laws.proofs.Options.{none_there}
-use Rattle.mum_core.proofs.RunLaws.{none_stands}
+use Rattle.mum_record.specs.declared.step.Step.TheVariants as steps
+use Rattle.mum_core.specs.steps.Edit as edit_step
 
 -- ---- a connection whose command is decided
 
@@ -64,7 +44,7 @@ session_stays core step c other = from (nat_lt 0 c) refl
         let low : 0 < c = ltb-true 0 c is in
         session_kept core step (c - 1) (other (c - 1) (omega (arith, low)))
 
--- ---- a connection that waits has nothing to be told
+-- ---- a connection that waits has nothing to be sent
 
 abbrev pub IsCalm : Connection → Type 0
 IsCalm x = is_some x.waiting ≡ true → x.decided ≡ None

@@ -1,56 +1,9 @@
 -- A journal of an orderly run is in order.
-use Rattle.std.proofs.Common.{◌≡◌, ℕ, zero, suc, ◌+◌, ◌-◌, ◌≤◌, ◌<◌, ◌==◌, not, Bool, true, false, cond, List, [], ◌∷◌, ◌++◌, length, take, drop, filter, Option, Some, None, refl, sym, ap, subst, ◌∙◌, arith, inl, inr}
-use Rattle.std.specs.Prelude.{IsTrue, is_none, is_some, nat_le, nat_lt, option_to_list, slice_get, slice_index_or}
-use Rattle.std.specs.List.{AllByRecursion, AllZip, list_any}
-use Rattle.std.specs.Option.{option_map, option_or}
-use Rattle.std.proofs.lemmas.Bool.{and_parts, cases_eq, eqb-true, false_from_ne_true, false≢true, leb-false, leb-true, ltb-true, or_left, or_right}
-use Rattle.mum_opening.specs.Opening.{opening}
-use Rattle.mum_record.specs.Head.{version_with}
-use Rattle.mum_record.specs.Journal.{may_carry}
-use Rattle.mum_record.specs.declared.journal.ControlEntry.{ControlEntry}
-use Rattle.mum_record.specs.declared.journal.Journal.{Journal}
-use Rattle.mum_record.specs.declared.journal.WorkerEntry.{WorkerEntry}
-use Rattle.mum_record.specs.declared.journal.WorkerEntry.TheVariants.{Closed, Voice}
-use Rattle.mum_record.specs.declared.step.Step.{Step}
-use Rattle.mum_record.specs.declared.step.Step.TheVariants as steps
-use Rattle.mum_record.specs.declared.step.Step.TheVariants.{Look}
-use Rattle.mum_session.specs.Verdict.{verdict}
-use Rattle.mum_session.specs.declared.command.Asked.{Asked}
-use Rattle.mum_state.specs.declared.edit.Edit.{Edit}
-use Rattle.mum_core.specs.declared.connection.Connection.{Connection}
+use Rattle.mum_recording_laws.proofs.Common.{◌≡◌, ℕ, zero, suc, ◌+◌, ◌-◌, ◌≤◌, ◌<◌, ◌==◌, not, Bool, true, false, cond, List, [], ◌∷◌, ◌++◌, length, take, drop, filter, Option, Some, None, refl, sym, ap, subst, ◌∙◌, arith, inl, inr, IsTrue, is_none, is_some, nat_le, nat_lt, option_to_list, slice_get, slice_index_or, AllByRecursion, AllZip, list_any, option_map, option_or, and_parts, cases_eq, eqb-true, false_from_ne_true, false≢true, leb-false, leb-true, ltb-true, or_left, or_right, opening, version_with, may_carry, ControlEntry, Journal, WorkerEntry, Closed, Voice, Step, Look, verdict, Asked, Edit, Connection, HasLeft, Reply, Seat, answered, fresh, leads, leave_waiting, next_command, next_of_frame, session_of, CoreState, connection_at, current, worker_at, IsRun, gathered, ran, does, illegal, HeldPacket, WorkerState, at_place, conn, placed, IsWithin, looks_are_bounded, none_stands, not_false, within, AreSettled, seat_all, settled_start, settled_step, Has, IsOf, Sound, sound_all, sound_start, is_voice, past_before, past_of, past_at, session_in, each_both, OrderlyRunsAreInOrder, first_core, AreAsked, IsInTime, IsTimely, leaves, AreOrderly, IsOrderly, IsDecided, IsRouted, Routed, decided, routed, routed_at}
 use Rattle.mum_core.specs.declared.connection.Leave.{Leave}
-use Rattle.mum_core.specs.declared.connection.Leave.TheVariants.{Decided as HasLeft}
-use Rattle.mum_core.specs.declared.connection.Reply.{Reply}
-use Rattle.mum_core.specs.declared.connection.Seat.{Seat}
-use Rattle.mum_core.specs.Connection.{answered, fresh, leads, leave_waiting, next_command, next_of_frame, session_of}
-use Rattle.mum_core.specs.Core.{CoreState, connection_at, current, worker_at}
-use Rattle.mum_core.specs.Laws.{IsRun, gathered, ran}
-use Rattle.mum_core.specs.Step.{does, illegal}
-use Rattle.mum_core.specs.Worker.{HeldPacket, WorkerState}
+use Rattle.mum_recording_laws.proofs.{Following.Follows, Following.IsQuiet, Following.MayDecide, Following.begins, Following.does_is, Following.follow, Following.follows_entry, Following.follows_quiet, Following.may_decide, Following.told_of, Holding.HoldsOpen, Holding.OpenSource, Holding.holds_step, Knowing.AreKnown, Leaving.AreDeparting, Leaving.Departs, Leaving.departs_step, Leaving.fresh_departs, Noting.AreCarried, Noting.asked_of_run, Noting.carried_of, Noting.known_first, Noting.known_here, Noting.known_next, Noting.quiet_known, Options.none_some, Options.same_some, Pasts.LoggedAt, Pasts.drop_next, Pasts.drop_none, Pasts.logged_more, Pasts.next_past, Pasts.rises, Pasts.take_next, Placing.has_by, Placing.idle_at, Placing.placed_of_run, Routing.each_of, Sitting.AreCalm, Sitting.calm_step, Sitting.changed_here, Timing.Timed, Timing.due_after, Timing.due_answered, Timing.timed_seat, Timing.timed_step}
+use Rattle.mum_record.specs.declared.step.Step.TheVariants as steps
 use Rattle.mum_core.specs.steps.Edit as edit_step
-use Rattle.mum_core.proofs.Places.{at_place, conn, placed}
-use Rattle.mum_core.proofs.RunLaws.{IsWithin, looks_are_bounded, none_stands, not_false, within}
-use Rattle.mum_core.proofs.Settled.{AreSettled, seat_all, settled_start, settled_step}
-use Rattle.mum_core.proofs.Speakers.{Has, IsOf, Sound, sound_all, sound_start}
-use Rattle.mum_audit.specs.Audit.{is_voice, past_before, past_of}
-use Rattle.mum_audit.specs.Legal.{past_at}
-use Rattle.mum_audit.specs.Past.{session_of as session_in}
-use Rattle.mum_audit.proofs.Pairs.{each_both}
-use Rattle.mum_recording_laws.specs.OfRuns.{OrderlyRunsAreInOrder, first_core}
-use Rattle.mum_recording_laws.specs.Order.{AreAsked, IsInTime, IsTimely, leaves}
-use Rattle.mum_recording_laws.specs.Orderly.{AreOrderly, IsOrderly}
-use Rattle.mum_recording_laws.specs.Recorded.{IsDecided, IsRouted, Routed, decided, routed, routed_at}
-use Rattle.mum_recording_laws.proofs.Following.{Follows, IsQuiet, MayDecide, begins, does_is, follow, follows_entry, follows_quiet, may_decide, told_of}
-use Rattle.mum_recording_laws.proofs.Holding.{HoldsOpen, OpenSource, holds_step}
-use Rattle.mum_recording_laws.proofs.Knowing.{AreKnown}
-use Rattle.mum_recording_laws.proofs.Leaving.{AreDeparting, Departs, departs_step, fresh_departs}
-use Rattle.mum_recording_laws.proofs.Noting.{AreCarried, asked_of_run, carried_of, known_first, known_here, known_next, quiet_known}
-use Rattle.mum_recording_laws.proofs.Options.{none_some, same_some}
-use Rattle.mum_recording_laws.proofs.Pasts.{LoggedAt, drop_next, drop_none, logged_more, next_past, rises, take_next}
-use Rattle.mum_recording_laws.proofs.Placing.{has_by, idle_at, placed_of_run}
-use Rattle.mum_recording_laws.proofs.Routing.{each_of}
-use Rattle.mum_recording_laws.proofs.Sitting.{AreCalm, calm_step, changed_here}
-use Rattle.mum_recording_laws.proofs.Timing.{Timed, due_after, due_answered, timed_seat, timed_step}
 
 -- ---- lists
 
@@ -80,7 +33,7 @@ seat_in None k is = absurd is
 seat_in (Some seat) k is = (seat, refl)
 
 module _ (journal : Journal) (asked : AreAsked journal) (carried : AreCarried journal.controls) where
-  -- what a core has behind so many entries
+  -- what a core has after n entries
   record Standing (j : ℕ) (core : CoreState) : Type 0 where
     follows : Follows core (past_at journal j)
     calm : AreCalm core

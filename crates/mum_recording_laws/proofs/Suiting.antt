@@ -1,32 +1,6 @@
 -- What a frame may be heard as, and what the connection that asks has then.
-use Rattle.std.proofs.Common.{◌≡◌, ℕ, ◌==◌, ◌&&◌, ◌⊎◌, Bool, true, false, cond, List, Option, Some, None, Ok, Err, refl, sym, ap, subst, ◌∙◌, inl, inr}
-use Rattle.std.specs.Prelude.{is_some}
-use Rattle.std.specs.List.{list_any}
-use Rattle.std.specs.Option.{option_map}
-use Rattle.std.proofs.lemmas.Bool.{eqb-true}
-use Rattle.mum_base.specs.declared.number.SessionId.{SessionId}
-use Rattle.mum_frame.specs.declared.kind.TheConstants.{AUTHENTICATE, PING, UDP_TUNNEL, VERSION}
-use Rattle.mum_fields.specs.Message.{or_else}
-use Rattle.mum_fields.specs.Table.{Values, decoded, layout}
-use Rattle.mum_msg_state.specs.Messages.{authenticate, ping, version}
-use Rattle.mum_msg_state.specs.Parts.{authenticate_of}
-use Rattle.mum_rules_user.specs.declared.message.UserMessage.TheVariants.{Join, Leave}
-use Rattle.mum_session.specs.Action.{Decoded, action, after_frame, after_login, bans_action, command_action, commands_after_login, ignore, login_action, ping_action, tree_or_user_action, version_action, version_after, voice_action}
-use Rattle.mum_session.specs.Heard.{command_heard, heard_map, login_heard, read}
-use Rattle.mum_session.specs.Machine.{Machine, is_rejected, session_of}
-use Rattle.mum_base.specs.declared.outcome.Reason.TheVariants.{NotRead}
-use Rattle.mum_session.specs.declared.action.Action.{Action}
-use Rattle.mum_session.specs.declared.action.TheConstants.{BAN_LIST}
-use Rattle.mum_session.specs.declared.action.Action.TheVariants.{Ask, Bans, Ignore}
-use Rattle.mum_session.specs.declared.command.Asked.{Asked}
-use Rattle.mum_session.specs.declared.command.Asked.TheVariants.{Tree, User}
-use Rattle.mum_session.specs.declared.command.Command.{Command}
-use Rattle.mum_session.specs.declared.heard.Heard.{Heard}
-use Rattle.mum_session.specs.declared.heard.Heard.TheVariants.{Malformed, Message, TooLong}
-use Rattle.mum_core.specs.declared.connection.Connection.{Connection}
-use Rattle.mum_core.specs.declared.connection.Seat.{Seat}
-use Rattle.mum_core.specs.Machine.{machine_of}
-use Rattle.mum_recording_laws.specs.Recorded.{frame_heard}
+use Rattle.mum_recording_laws.proofs.Common.{◌≡◌, ℕ, ◌==◌, ◌&&◌, ◌⊎◌, Bool, true, false, cond, List, Option, Some, None, Ok, Err, refl, sym, ap, subst, ◌∙◌, inl, inr, is_some, list_any, option_map, eqb-true, SessionId, AUTHENTICATE, PING, UDP_TUNNEL, VERSION, or_else, Values, decoded, layout, authenticate, ping, version, authenticate_of, Join, Leave, Decoded, action, after_frame, after_login, bans_action, command_action, commands_after_login, ignore, login_action, ping_action, tree_or_user_action, version_action, version_after, voice_action, command_heard, heard_map, login_heard, read, Machine, NotRead, Action, BAN_LIST, Ask, Bans, Ignore, Asked, Tree, User, Command, Heard, Malformed, Message, TooLong, Connection, Seat, machine_of, frame_heard}
+use Rattle.mum_session.specs.Machine.{is_rejected, session_of}
 use Rattle.mum_recording_laws.proofs.Deciding.{IsLater, comes_later}
 
 -- ---- logins and other commands
@@ -55,7 +29,7 @@ heard_as told kind payload what is = from (kind == AUTHENTICATE) (list_any (λ k
 
 -- ---- what fits the connection
 
--- a login has the version that the connection told, and for another command it has a seat
+-- a login has the version that the connection sent, and for another command it has a seat
 abbrev pub Suits : Option ℕ → Option Seat → Asked → Type 0
 Suits told seat (User (Join message given)) = given ≡ told
 Suits told seat (User Leave) = ⊥
@@ -152,7 +126,7 @@ asks_at c x false (Some seat) kind payload command welcome seated is = (
       (list_any (λ known. known == kind) commands_after_login) kind refl refl is,
 )
 
--- whoever asks was not rejected, and has what the command wants
+-- the actor was not rejected, and has what the command wants
 pub asks_so : (c : ℕ) (x : Connection) (kind : ℕ) (payload : List ℕ) (command : Command) → action (machine_of c x) kind payload ≡ Ask command → Asks x command
 asks_so c x kind payload command is =
     let both = asks_at c x x.rejected x.seat kind payload command refl refl is in record { welcome = both.0; suits = both.1 }

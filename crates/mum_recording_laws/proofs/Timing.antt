@@ -1,48 +1,13 @@
 -- In orderly runs a worker looks at no revision before the logins of its connections.
-use Rattle.std.proofs.Common.{◌≡◌, ℕ, suc, ◌+◌, ◌≤◌, ◌<◌, max, not, Bool, true, false, List, length, Option, Some, None, refl, sym, ap, subst, ◌∙◌, arith, inl, inr}
-use Rattle.std.specs.Prelude.{⊤, IfSome, is_none, is_some, nat_lt, slice_index_or}
-use Rattle.std.specs.Option.{option_map, option_or}
-use Rattle.std.proofs.lemmas.Bool.{cases_eq, false≢true, ltb-false, ltb-true}
-use Rattle.std.proofs.lemmas.List.{get_or_past}
-use Rattle.mum_record.specs.declared.journal.Journal.{Journal}
-use Rattle.mum_record.specs.declared.step.Step.{Step}
+use Rattle.mum_recording_laws.proofs.Common.{◌≡◌, ℕ, suc, ◌+◌, ◌≤◌, ◌<◌, max, not, Bool, true, false, List, length, Option, Some, None, refl, sym, ap, subst, ◌∙◌, arith, inl, inr, ⊤, IfSome, is_none, is_some, nat_lt, slice_index_or, option_map, option_or, cases_eq, false≢true, ltb-false, ltb-true, get_or_past, Journal, Step, Close, Frame, Tell, mark, Action, Ask, Keep, Asked, Edit, Verdict, Accepted, Connection, Reply, Seat, answered, fresh, is_accepted, next_of_frame, seat_given, session_of, told, first_that_stands, CoreState, connection_at, is_opened, worker_at, changed_at, seat_of, does, frame_action, frame_version, illegal, WorkerState, idle, edit_revision, has_edit, note_cases, changed_same, Change, at_place, change_by, change_of, change_to, conn, each_step, place_stays, goes_on, none_stands, not_false, past_at, session_in, AreAsked, IsOrderly}
+use Rattle.mum_core.specs.Connection.{revision_of}
+use Rattle.mum_recording_laws.proofs.{Following.Follows, Following.IsQuiet, Holding.as_many, Options.none_some, Options.same_some, Pasts.LoggedAt, Pasts.logged_by, Pasts.logged_more, Sitting.changed_here}
 use Rattle.mum_record.specs.declared.step.Step.TheVariants as steps
-use Rattle.mum_record.specs.declared.step.Step.TheVariants.{Close, Frame, Tell}
-use Rattle.mum_session.specs.Reply.{mark}
-use Rattle.mum_session.specs.declared.action.Action.{Action}
-use Rattle.mum_session.specs.declared.action.Action.TheVariants.{Ask, Keep}
-use Rattle.mum_session.specs.declared.command.Asked.{Asked}
-use Rattle.mum_state.specs.declared.edit.Edit.{Edit}
-use Rattle.mum_state.specs.declared.verdict.Verdict.{Verdict}
-use Rattle.mum_state.specs.declared.verdict.Verdict.TheVariants.{Accepted}
-use Rattle.mum_core.specs.declared.connection.Connection.{Connection}
-use Rattle.mum_core.specs.declared.connection.Reply.{Reply}
-use Rattle.mum_core.specs.declared.connection.Seat.{Seat}
-use Rattle.mum_core.specs.Connection.{answered, fresh, is_accepted, next_of_frame, revision_of, seat_given, session_of, told}
-use Rattle.mum_core.specs.Case.{first_that_stands}
-use Rattle.mum_core.specs.Core.{CoreState, connection_at, is_opened, worker_at}
-use Rattle.mum_core.specs.Lists.{changed_at}
-use Rattle.mum_core.specs.Reply.{seat_of}
-use Rattle.mum_core.specs.Step.{does, frame_action, frame_version, illegal}
-use Rattle.mum_core.specs.Worker.{WorkerState, idle}
 use Rattle.mum_core.specs.steps.Edit as edit_step
-use Rattle.mum_core.specs.steps.Tell.{edit_revision, has_edit, note_cases}
-use Rattle.mum_core.proofs.Changed.{changed_same}
-use Rattle.mum_core.proofs.Places.{Change, at_place, change_by, change_of, change_to, conn, each_step, place_stays}
-use Rattle.mum_core.proofs.RunLaws.{goes_on, none_stands, not_false}
-use Rattle.mum_audit.specs.Legal.{past_at}
-use Rattle.mum_audit.specs.Past.{session_of as session_in}
-use Rattle.mum_recording_laws.specs.Order.{AreAsked}
-use Rattle.mum_recording_laws.specs.Orderly.{IsOrderly}
-use Rattle.mum_recording_laws.proofs.Following.{Follows, IsQuiet}
-use Rattle.mum_recording_laws.proofs.Holding.{as_many}
-use Rattle.mum_recording_laws.proofs.Options.{none_some, same_some}
-use Rattle.mum_recording_laws.proofs.Pasts.{LoggedAt, logged_by, logged_more}
-use Rattle.mum_recording_laws.proofs.Sitting.{changed_here}
 
 -- ---- what a step leaves of seats and of replies
 
--- the step does not tell the connection at this place its reply
+-- the step does not send its reply to the connection at this place
 abbrev pub IsNotTold : Step → ℕ → Type 0
 IsNotTold (Tell c revision) i = c ≡ i + 1 → ⊥
 IsNotTold others i = ⊤
@@ -142,7 +107,7 @@ module _ (journal : Journal) (asked : AreAsked journal) where
       → (conn (does core step) i).worker < length (does core step).workers → LoggedAt journal asked (i + 1) (worker_at (does core step) (conn (does core step) i).worker).told
   timed_seat core step i seat allowed timed other is inside = seat_before core step i seat allowed timed (sym (seat_kept core step i other) ∙ is) inside
 
-  -- what a note says is told to the worker
+  -- what a note says is sent to the worker
   note_told : (core : CoreState) (c w least : ℕ) (d : Option Reply) (revision : Option ℕ) → (connection_at core c).decided ≡ d → first_that_stands (note_cases core d revision) ≡ None
       → is_some revision ≡ true → edit_revision d ≡ least → (connection_at core c).worker ≡ w → w < length core.workers → least ≤ (worker_at (does core (Tell c revision)) w).told
   note_told core c w least d None at allowed some is own inside = absurd (false≢true some)

@@ -1,38 +1,9 @@
 -- The packets of a worker are routed in a core in which nothing is underway, and leave such a core.
-use Rattle.std.proofs.Common.{◌≡◌, ℕ, ◌-◌, ◌≤◌, ◌<◌, ◌==◌, ◌&&◌, max, Bool, true, false, cond, List, [], ◌∷◌, ◌++◌, length, map, drop, Option, Some, None, Result, Ok, refl, sym, ap, subst, ◌∙◌, arith, inl, inr}
-use Rattle.std.specs.Prelude.{is_none, is_some, nat_lt, not, option_to_list, slice_get, slice_index_or}
-use Rattle.std.specs.List.{list_any}
-use Rattle.std.specs.Option.{option_map}
-use Rattle.std.proofs.lemmas.Bool.{cases_eq, eq-eqb, le-ltb, lt-ltb, ne_eqb}
-use Rattle.mum_record.specs.declared.journal.ControlEntry.{ControlEntry}
-use Rattle.mum_record.specs.declared.step.Step.{Step}
-use Rattle.mum_record.specs.declared.step.Step.TheVariants.{Frame, Look, Offer}
-use Rattle.mum_session.specs.declared.action.Action.{Action}
-use Rattle.mum_state.specs.declared.edit.Edit.{Edit}
-use Rattle.mum_voice.specs.Packet.{Parts, packet}
-use Rattle.mum_voice.specs.declared.fault.BadVoice.{BadVoice}
-use Rattle.mum_core.specs.declared.connection.Connection.{Connection}
-use Rattle.mum_core.specs.declared.connection.Seat.{Seat}
-use Rattle.mum_core.specs.declared.worker.Outgoing.{Outgoing}
-use Rattle.mum_core.specs.Connection.{fresh, session_of}
-use Rattle.mum_core.specs.Core.{CoreState, at_worker, connection_at, is_opened, state_at, up, worker_at}
-use Rattle.mum_core.specs.Laws.{IsRun, gathered, ran}
-use Rattle.mum_core.specs.Step.{does, frame_version, illegal}
-use Rattle.mum_core.specs.Worker.{HeldPacket, WorkerState, idle, least_look}
+use Rattle.mum_recording_laws.proofs.Common.{◌≡◌, ℕ, ◌-◌, ◌≤◌, ◌<◌, ◌==◌, ◌&&◌, max, Bool, true, false, cond, List, [], ◌∷◌, ◌++◌, length, map, drop, Option, Some, None, Result, Ok, refl, sym, ap, subst, ◌∙◌, arith, inl, inr, is_none, is_some, nat_lt, not, option_to_list, slice_get, slice_index_or, list_any, option_map, cases_eq, eq-eqb, le-ltb, lt-ltb, ne_eqb, ControlEntry, Step, Frame, Look, Offer, Action, Edit, Parts, packet, BadVoice, Connection, Seat, Outgoing, fresh, session_of, CoreState, at_worker, connection_at, is_opened, state_at, up, worker_at, IsRun, gathered, ran, does, frame_version, illegal, HeldPacket, WorkerState, idle, least_look, hears, spoken, changed_other, changed_same, length-changed, puts_workers, taken_core, Past, leaves, AreOrderly, Routed, decided, routed, routed_at}
+use Rattle.mum_recording_laws.proofs.{Asking.voice_frame, Asking.voice_heard, Following.Follows, Moving.IsFree, Moving.frame_allowed, Moving.passed, Resting.Ready, Resting.Sits}
 use Rattle.mum_core.specs.steps.Frame as frame_step
-use Rattle.mum_core.specs.steps.Frame.{hears, spoken}
 use Rattle.mum_core.specs.steps.Look as look_step
 use Rattle.mum_core.specs.steps.Offer as offer_step
-use Rattle.mum_core.proofs.Changed.{changed_other, changed_same, length-changed}
-use Rattle.mum_core.proofs.RunLaws.{puts_workers, taken_core}
-use Rattle.mum_audit.specs.Past.{Past}
-use Rattle.mum_recording_laws.specs.Order.{leaves}
-use Rattle.mum_recording_laws.specs.Orderly.{AreOrderly}
-use Rattle.mum_recording_laws.specs.Recorded.{Routed, decided, routed, routed_at}
-use Rattle.mum_recording_laws.proofs.Asking.{voice_frame, voice_heard}
-use Rattle.mum_recording_laws.proofs.Following.{Follows}
-use Rattle.mum_recording_laws.proofs.Moving.{IsFree, frame_allowed, passed}
-use Rattle.mum_recording_laws.proofs.Resting.{Ready, Sits}
 
 -- ---- what is offered
 

@@ -1,15 +1,11 @@
 -- The journals of runs are the legal ones.
 use Rattle.std.specs.Prelude.{List}
+use Rattle.mum_record.specs.{Head.version_with, Journal.IsJournal}
+use Rattle.mum_record.specs.declared.{journal.Journal.Journal, step.Step.Step}
 use Rattle.mum_opening.specs.Opening.{opening}
-use Rattle.mum_record.specs.Head.{version_with}
-use Rattle.mum_record.specs.Journal.{IsJournal}
-use Rattle.mum_record.specs.declared.journal.Journal.{Journal}
-use Rattle.mum_record.specs.declared.step.Step.{Step}
-use Rattle.mum_core.specs.Core.{CoreState, start}
-use Rattle.mum_core.specs.Laws.{IsRun}
+use Rattle.mum_core.specs.{Core.CoreState, Core.start, Laws.IsRun}
 use Rattle.mum_audit.specs.Legal.{IsLegal}
-use Rattle.mum_recording_laws.specs.Order.{AreAsked, ArePlaced, IsInOrder}
-use Rattle.mum_recording_laws.specs.Orderly.{AreOrderly}
+use Rattle.mum_recording_laws.specs.{Order.AreAsked, Order.ArePlaced, Order.IsInOrder, Orderly.AreOrderly}
 use Rattle.mum_recording_laws.specs.Recorded.{AreOfRun, IsRecorded}
 
 -- the core of as many workers, at the opening of the journal's document
@@ -19,7 +15,8 @@ first_core journal = start (version_with journal.limits) (opening journal.limits
 -- whatever journal has the commands, the packets and the closings of a run is legal
 abbrev pub JournalsOfRunsAreLegal : Type 0
 JournalsOfRunsAreLegal =
-    (journal : Journal) (steps : List Step) → IsRun (first_core journal) steps → IsRecorded journal (first_core journal) steps
+    (journal : Journal) (steps : List Step) → IsRun (first_core journal) steps
+    → IsRecorded journal (first_core journal) steps
     → IsLegal journal
 
 -- a legal journal that is in order, and has lines, has the verdicts and the routes of an orderly run
@@ -38,5 +35,6 @@ JournalsOfRunsAreAsked =
 -- whatever journal has lines, and the commands and the packets of a run in which servers act in order, is in order
 abbrev pub OrderlyRunsAreInOrder : Type 0
 OrderlyRunsAreInOrder =
-    (journal : Journal) (steps : List Step) → IsJournal journal → IsRun (first_core journal) steps → AreOrderly (first_core journal) steps
+    (journal : Journal) (steps : List Step) → IsJournal journal → IsRun (first_core journal) steps
+    → AreOrderly (first_core journal) steps
     → AreOfRun journal (first_core journal) steps → IsInOrder journal

@@ -3,16 +3,11 @@ use Rattle.std.specs.Prelude.{◌≡◌, ℕ, ◌<◌, ◌≤◌, ◌==◌, ◌&
 use Rattle.std.specs.List.{AllByRecursion, list_any}
 use Rattle.mum_frame.specs.Frame.{kind_of}
 use Rattle.mum_frame.specs.declared.kind.TheConstants.{AUTHENTICATE}
-use Rattle.mum_record.specs.declared.journal.ControlEntry.{ControlEntry}
-use Rattle.mum_record.specs.declared.journal.Journal.{Journal}
-use Rattle.mum_record.specs.declared.journal.WorkerEntry.{WorkerEntry}
+use Rattle.mum_record.specs.declared.journal.{ControlEntry.ControlEntry, Journal.Journal, WorkerEntry.WorkerEntry}
 use Rattle.mum_record.specs.declared.journal.WorkerEntry.TheVariants.{Closed, Voice}
-use Rattle.mum_session.specs.declared.command.Asked.{Asked}
-use Rattle.mum_session.specs.declared.heard.Heard.TheVariants.{Message}
+use Rattle.mum_session.specs.declared.{command.Asked.Asked, heard.Heard.TheVariants.Message}
 use Rattle.mum_core.specs.Connection.{is_rejected}
-use Rattle.mum_audit.specs.Audit.{entries_of}
-use Rattle.mum_audit.specs.Legal.{past_at}
-use Rattle.mum_audit.specs.Past.{Past, session_of}
+use Rattle.mum_audit.specs.{Audit.entries_of, Legal.past_at, Past.Past, Past.session_of}
 use Rattle.mum_recording_laws.specs.Recorded.{command_of}
 
 -- ---- what an entry says of a connection
@@ -47,13 +42,13 @@ pub record IsAsked (past : Past) (earlier : List ControlEntry) (entry : ControlE
   pub once : entry.frame ≡ None → list_any (leaves entry.connection) earlier ≡ false
   pub command : (bytes : List ℕ) → entry.frame ≡ Some bytes → IsCommand past earlier entry bytes
 
--- each control entry of a journal could be asked for behind those before it
+-- each control entry of a journal could be asked for after those before it
 abbrev pub AreAsked : Journal → Type 0
 AreAsked journal =
     (i : ℕ) (entry : ControlEntry) → slice_get journal.controls i ≡ Some entry
     → IsAsked (past_at journal i) (take i journal.controls) entry
 
--- nothing is decided of a connection behind its leave
+-- nothing is decided of a connection after its leave
 abbrev pub NoneIsLate : Journal → Type 0
 NoneIsLate journal =
     (i : ℕ) (entry : ControlEntry) → slice_get journal.controls i ≡ Some entry
@@ -87,7 +82,7 @@ IsTimely journal (Closed c cause) = ⊤
 -- ---- a journal
 
 -- each entry could come where it is. A run of the core may miss what is said of leaves and of revisions: a connection that
--- lagged may ask for more behind its leave, a worker that is told no revision may look at one before the login of its
+-- lagged may ask for more after its leave, a worker notified of no revision may look at one before the login of its
 -- speaker, and one that holds a packet may look for it when its connection has left
 pub record IsInOrder (journal : Journal) : Type 0 where
   pub asked : AreAsked journal

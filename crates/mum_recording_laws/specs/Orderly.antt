@@ -3,13 +3,11 @@ use Rattle.std.specs.Prelude.{◌≡◌, ⊤, true, List, [], ◌∷◌, None, i
 use Rattle.mum_record.specs.declared.step.Step.{Step}
 use Rattle.mum_record.specs.declared.step.Step.TheVariants.{Close, Edit, Frame, Tell}
 use Rattle.mum_core.specs.declared.connection.Leave.TheVariants.{Stays}
-use Rattle.mum_core.specs.Connection.{next_of_frame}
-use Rattle.mum_core.specs.Core.{CoreState, connection_at, worker_at}
-use Rattle.mum_core.specs.Step.{does}
+use Rattle.mum_core.specs.{Connection.next_of_frame, Core.CoreState, Core.connection_at, Core.worker_at, Step.does}
 use Rattle.mum_core.specs.steps.Tell.{has_edit}
 
--- a connection that is to leave takes no frame, its leave is decided when it is closed, whoever is told of an accepted edit
--- is told a revision, and no connection closes while its worker holds a packet
+-- a connection that is to leave takes no frame, its leave is decided when it is closed, whoever hears of an accepted edit
+-- is notified of a revision, and no connection closes while its worker holds a packet
 abbrev pub IsOrderly : CoreState → Step → Type 0
 IsOrderly core (Frame c bytes) = (connection_at core c).leave ≡ Stays
 IsOrderly core (Edit c) = next_of_frame (connection_at core c) ≡ None → is_some (connection_at core c).closed ≡ true

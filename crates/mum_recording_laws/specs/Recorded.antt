@@ -1,37 +1,25 @@
 -- What a run of the core and a journal say of commands and of packets.
 use Rattle.std.specs.Prelude.{◌≡◌, ℕ, ◌+◌, ◌==◌, List, [], ◌∷◌, length, map, filter, Option, Some, None, Ok, option_to_list, if◌then◌else◌, slice_get}
-use Rattle.std.specs.List.{AllZip, filter_map, list_any}
-use Rattle.std.specs.Option.{option_map}
-use Rattle.mum_base.specs.declared.number.SessionId.{SessionId}
-use Rattle.mum_base.specs.declared.reply.Mark.{Mark}
+use Rattle.std.specs.{List.AllZip, List.filter_map, List.list_any, Option.option_map}
+use Rattle.mum_base.specs.declared.{number.SessionId.SessionId, reply.Mark.Mark}
 use Rattle.mum_frame.specs.Frame.{kind_of, payload_of}
 use Rattle.mum_frame.specs.declared.kind.TheConstants.{AUTHENTICATE}
-use Rattle.mum_record.specs.declared.journal.ControlEntry.{ControlEntry}
-use Rattle.mum_record.specs.declared.journal.Journal.{Journal}
-use Rattle.mum_record.specs.declared.journal.WorkerEntry.{WorkerEntry}
+use Rattle.mum_voice.specs.Packet.{Parts, packet}
+use Rattle.mum_record.specs.declared.journal.{ControlEntry.ControlEntry, Journal.Journal, WorkerEntry.WorkerEntry}
 use Rattle.mum_record.specs.declared.journal.WorkerEntry.TheVariants.{Closed, Voice}
 use Rattle.mum_record.specs.declared.step.Step.{Step}
-use Rattle.mum_record.specs.declared.step.Step.TheVariants as steps
 use Rattle.mum_route.specs.Route.{Member}
 use Rattle.mum_rules_user.specs.declared.message.UserMessage.TheVariants.{Leave}
-use Rattle.mum_session.specs.Action.{commands_after_login}
-use Rattle.mum_session.specs.Heard.{command_heard, login_heard}
-use Rattle.mum_session.specs.Reply.{mark}
+use Rattle.mum_session.specs.{Action.commands_after_login, Heard.command_heard, Heard.login_heard, Reply.mark}
 use Rattle.mum_session.specs.Verdict.{verdict}
-use Rattle.mum_session.specs.declared.command.Asked.{Asked}
-use Rattle.mum_session.specs.declared.command.Asked.TheVariants.{User}
-use Rattle.mum_session.specs.declared.heard.Heard.{Heard}
+use Rattle.mum_session.specs.declared.{command.Asked.Asked, command.Asked.TheVariants.User, heard.Heard.Heard}
 use Rattle.mum_session.specs.declared.heard.Heard.TheVariants.{Malformed, Message}
-use Rattle.mum_voice.specs.Packet.{Parts, packet}
-use Rattle.mum_core.specs.Connection.{next_command, session_of}
-use Rattle.mum_core.specs.Core.{CoreState, connection_at, current, state_at, worker_at}
-use Rattle.mum_core.specs.Laws.{gathered}
-use Rattle.mum_core.specs.Worker.{HeldPacket}
+use Rattle.mum_core.specs.{Connection.next_command, Connection.session_of, Laws.gathered, Worker.HeldPacket}
 use Rattle.mum_core.specs.steps.Look.{audience}
-use Rattle.mum_audit.specs.Audit.{is_voice, past_of}
-use Rattle.mum_audit.specs.Finding.{members_of}
-use Rattle.mum_audit.specs.Legal.{closed_by}
+use Rattle.mum_core.specs.Core.{CoreState, connection_at, current, state_at, worker_at}
+use Rattle.mum_audit.specs.{Audit.is_voice, Audit.past_of, Finding.members_of, Legal.closed_by}
 use Rattle.mum_audit.specs.Past.{Past, session_of as session_in}
+use Rattle.mum_record.specs.declared.step.Step.TheVariants as steps
 
 -- ---- of a run
 
@@ -68,7 +56,8 @@ routed_at core revision held = record {
 
 -- the packet for which worker w looks in a step
 abbrev pub routed : ℕ → CoreState → Step → List Routed
-routed w core (steps.Look v revision) = if v == w then option_to_list (option_map (routed_at core revision) (worker_at core w).held) else []
+routed w core (steps.Look v revision) =
+    if v == w then option_to_list (option_map (routed_at core revision) (worker_at core w).held) else []
 routed w core step = []
 
 -- the connection of worker w that a step closes
@@ -99,7 +88,8 @@ pub record IsDecided (entry : ControlEntry) (one : Decided) : Type 0 where
 -- the entry says that this was routed, where the control entries leave the session of its connection
 abbrev pub IsRouted : Past → WorkerEntry → Routed → Type 0
 IsRouted past (Voice connection revision bytes copies) one =
-    (session_in past connection ≡ Some one.speaker) × (packet bytes ≡ Ok one.parts) × (revision ≡ one.revision) × (members_of copies ≡ one.members)
+    (session_in past connection ≡ Some one.speaker) × (packet bytes ≡ Ok one.parts) × (revision ≡ one.revision)
+    × (members_of copies ≡ one.members)
 IsRouted past (Closed connection cause) one = ⊥
 
 -- the control entries are the commands that a run decides, in their order, and the voice entries of each worker the

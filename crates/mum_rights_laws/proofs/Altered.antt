@@ -1,38 +1,6 @@
 -- What an accepted message on channels sets of channels that are there, and of one that comes.
-use Rattle.std.proofs.Common.{◌≡◌, ◌≢◌, ◌<◌, ◌==◌, ◌&&◌, not, Bool, true, false, cond, List, [], ◌∷◌, ◌++◌, Some, None, refl, ap, sym, ◌∙◌, arith}
-use Rattle.std.specs.List.{find, list_any}
-use Rattle.std.specs.Option.{is_none, is_some, option_map, option_map_or, option_or}
-use Rattle.std.proofs.lemmas.Bool.{and_parts, both_ways, eq-eqb, ltb-true, ne_eqb}
-use Rattle.std.proofs.lemmas.List.Folds.{find-append}
-use Rattle.mum_base.specs.declared.number.ChannelId.{ChannelId}
-use Rattle.mum_base.specs.declared.number.SessionId.{SessionId}
-use Rattle.mum_base.specs.declared.number.TheConstants.ChannelId.{ROOT}
-use Rattle.mum_msg_state.specs.declared.channel_state.ChannelState.{ChannelState}
-use Rattle.mum_tree.specs.Change.{with_given}
-use Rattle.mum_tree.specs.Places.{least_place}
-use Rattle.mum_tree.specs.Rows.{is_below, is_root, is_there, number, row_of}
-use Rattle.mum_tree.specs.State.{new_row}
-use Rattle.mum_tree.specs.declared.channel.Channel.{Channel}
-use Rattle.mum_tree.specs.declared.channel.Row.{Row}
-use Rattle.mum_tree.specs.declared.fault.TreeFault.TheVariants.{NoChannel, RootFixed}
-use Rattle.mum_tree.proofs.Changed.{change_row, number_found, row_of-map}
-use Rattle.mum_tree.proofs.Shrunk.{kept_row, there_after}
-use Rattle.mum_users.specs.declared.user.User.{User}
-use Rattle.mum_state.specs.Fits.{fits, gives_right_numbers, is_countable, sets_properly}
+use Rattle.mum_rights_laws.proofs.Common.{◌≡◌, ◌≢◌, ◌<◌, ◌==◌, ◌&&◌, not, Bool, true, false, cond, List, [], ◌∷◌, ◌++◌, Some, None, refl, ap, sym, ◌∙◌, arith, find, list_any, is_none, is_some, option_map, option_map_or, option_or, and_parts, both_ways, eq-eqb, ltb-true, ne_eqb, find-append, ChannelId, SessionId, ROOT, ChannelState, with_given, least_place, is_below, is_root, is_there, number, row_of, new_row, Channel, Row, NoChannel, RootFixed, change_row, number_found, row_of-map, kept_row, there_after, User, fits, gives_right_numbers, is_countable, sets_properly, channel_edit, IsProper, set_by, with_maker_in, PolicyRow, StateValue, Edit, RemoveChannel, any_map, some_found, numbers_of_fitting, there_known, change_asked, is_to_be_temporary, parent_of_new, text_or_empty, new_number, edit_to_make, info_of_new, TreeMessage}
 use Rattle.mum_state.specs.Named.{names_there}
-use Rattle.mum_state.specs.Parts.{channel_edit}
-use Rattle.mum_state.specs.Proper.{IsProper}
-use Rattle.mum_state.specs.Set.{set_by, with_maker_in}
-use Rattle.mum_state.specs.State.{PolicyRow, StateValue}
-use Rattle.mum_state.specs.declared.edit.Edit.{Edit}
-use Rattle.mum_state.specs.declared.edit.Edit.TheVariants.{RemoveChannel}
-use Rattle.mum_state.proofs.Each.{any_map, some_found}
-use Rattle.mum_state.proofs.Numbers.{numbers_of_fitting}
-use Rattle.mum_state.proofs.Renewing.{there_known}
-use Rattle.mum_rules_tree.specs.Asked.{change_asked, is_to_be_temporary, parent_of_new, text_or_empty}
-use Rattle.mum_rules_tree.specs.Limits.{new_number}
-use Rattle.mum_rules_tree.specs.Outcome.{edit_to_make, info_of_new}
-use Rattle.mum_rules_tree.specs.declared.message.TreeMessage.{TreeMessage}
 use Rattle.mum_rights_laws.proofs.TreeKinds.{IsKind, changes, makes, removes, rules}
 
 pub one_some : {X : Type 0} (one other : X) → Some one ≡ Some other → one ≡ other

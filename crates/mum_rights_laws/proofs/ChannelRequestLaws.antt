@@ -1,32 +1,6 @@
 -- What a message on channels asks for is what changes of channels, and nothing else does.
-use Rattle.std.proofs.Common.{◌≡◌, ℕ, ◌==◌, Bool, true, false, cond, List, [], Option, Some, None, refl, ap, sym, ◌∙◌, subst}
-use Rattle.std.specs.Option.{option_map, option_map_or, unwrap_or}
-use Rattle.std.specs.Str.{bytes_eq}
-use Rattle.std.proofs.lemmas.Bool.{eq-eqb, eqb-true}
-use Rattle.std.proofs.lemmas.Slice.Eq.{bytes_eq-Decides}
-use Rattle.mum_base.specs.declared.number.ChannelId.{ChannelId}
-use Rattle.mum_base.specs.declared.number.SessionId.{SessionId}
-use Rattle.mum_msg_state.specs.declared.channel_state.ChannelState.{ChannelState}
-use Rattle.mum_tree.specs.Change.{given_or, with_given}
-use Rattle.mum_tree.specs.Refusals.{name_of, parent_of}
-use Rattle.mum_tree.specs.Rows.{number, row_of}
-use Rattle.mum_tree.specs.declared.channel.Row.{Row}
-use Rattle.mum_tree.proofs.Changed.{change_row, row_of-map}
-use Rattle.mum_users.specs.declared.user.User.{User}
-use Rattle.mum_state.specs.Set.{set_by}
-use Rattle.mum_state.specs.State.{StateValue}
-use Rattle.mum_state.specs.declared.edit.Edit.{Edit}
-use Rattle.mum_state.proofs.Keeping.{fit_proper}
-use Rattle.mum_rules_tree.specs.Asked.{change_asked, channel, given_unless}
-use Rattle.mum_rules_tree.specs.declared.message.TreeMessage.{TreeMessage}
-use Rattle.mum_rules_tree.specs.declared.message.TreeMessage.TheVariants.{State}
-use Rattle.mum_rights_laws.specs.ChannelRequests.{ChannelStatesAreDone, ChannelsAreMadeAsAsked, IsChanged, IsNew, OtherChannelsStand}
-use Rattle.mum_rights_laws.specs.Standing.{OfLasting}
-use Rattle.mum_rights_laws.specs.TreeCommands.{AsksToChange}
-use Rattle.mum_rights_laws.proofs.Altered.{altered, changed_number, made_is, number_is}
-use Rattle.mum_rights_laws.proofs.ChannelLaws.{altered_is, of_kinds}
-use Rattle.mum_rights_laws.proofs.Settled.{lasting}
-use Rattle.mum_rights_laws.proofs.TreeKinds.{IsKind, changes, makes, removes, rules}
+use Rattle.mum_rights_laws.proofs.Common.{◌≡◌, ℕ, ◌==◌, Bool, true, false, cond, List, [], Option, Some, None, refl, ap, sym, ◌∙◌, subst, option_map, option_map_or, unwrap_or, bytes_eq, eq-eqb, eqb-true, bytes_eq-Decides, ChannelId, SessionId, ChannelState, given_or, with_given, name_of, parent_of, number, row_of, Row, change_row, row_of-map, User, set_by, StateValue, Edit, fit_proper, change_asked, channel, given_unless, TreeMessage, State, ChannelStatesAreDone, ChannelsAreMadeAsAsked, IsChanged, IsNew, OtherChannelsStand, OfLasting, AsksToChange}
+use Rattle.mum_rights_laws.proofs.{Altered.altered, Altered.changed_number, Altered.made_is, Altered.number_is, ChannelLaws.altered_is, ChannelLaws.of_kinds, Settled.lasting, TreeKinds.IsKind, TreeKinds.changes, TreeKinds.makes, TreeKinds.removes, TreeKinds.rules}
 
 -- ---- what is given
 

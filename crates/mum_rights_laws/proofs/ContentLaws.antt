@@ -1,44 +1,10 @@
 -- Links and policies are those of the message that sets them.
-use Rattle.std.proofs.Common.{◌≡◌, ◌≢◌, ℕ, ◌==◌, ◌&&◌, ◌||◌, not, Bool, true, false, cond, List, [], ◌∷◌, filter, find, map, Option, Some, None, refl, ap, sym, ◌∙◌, subst}
-use Rattle.std.specs.Prelude.{unwrap_or}
-use Rattle.std.specs.List.{AllZip}
-use Rattle.std.specs.Option.{is_some, option_map, option_map_or}
-use Rattle.std.proofs.lemmas.Bool.{eqb-true, ne_eqb}
-use Rattle.mum_base.specs.Channels.{is_among}
-use Rattle.mum_base.specs.declared.number.ChannelId.{ChannelId}
-use Rattle.mum_base.specs.declared.number.SessionId.{SessionId}
-use Rattle.mum_msg_rule.specs.declared.acl.Acl.{Acl as AclMessage}
-use Rattle.mum_msg_rule.specs.declared.acl_group.AclGroup.{AclGroup}
-use Rattle.mum_msg_rule.specs.declared.acl_line.AclLine.{AclLine}
-use Rattle.mum_msg_state.specs.declared.channel_state.ChannelState.{ChannelState}
-use Rattle.mum_policy.specs.declared.policy.ChannelPolicy.{ChannelPolicy}
-use Rattle.mum_policy.specs.declared.policy.Whom.TheVariants.{Account, Group}
-use Rattle.mum_tree.specs.Rows.{is_there}
-use Rattle.mum_tree.specs.State.{are_linked}
-use Rattle.mum_tree.proofs.Partners.{own_after}
-use Rattle.mum_users.specs.declared.user.User.{User}
-use Rattle.mum_state.specs.Applied.{applied}
-use Rattle.mum_state.specs.Proper.{IsProper}
-use Rattle.mum_state.specs.Set.{set_by, with_policy}
-use Rattle.mum_state.specs.State.{PolicyRow, StateValue, policy_of}
-use Rattle.mum_state.specs.declared.edit.Edit.{Edit}
-use Rattle.mum_state.proofs.Keeping.{fit_proper}
-use Rattle.mum_rules_tree.specs.Asked.{change_asked, channel, is_other, others}
-use Rattle.mum_rules_tree.specs.Outcome.{edit_to_change}
-use Rattle.mum_rules_tree.specs.Policy.{account, accounts, entry_asked, group_asked, policy_asked, whom_asked}
-use Rattle.mum_rules_tree.specs.declared.message.TreeMessage.{TreeMessage}
-use Rattle.mum_rules_tree.specs.declared.message.TreeMessage.TheVariants.{Acl}
-use Rattle.mum_rights_laws.specs.Contents.{IsEntryAsked, IsGroupAsked, IsPolicyAsked, IsWhomAsked, LinksAreDone, PoliciesAreDone}
-use Rattle.mum_rights_laws.specs.TreeCommands.{AsksToChange}
-use Rattle.mum_rights_laws.specs.Listed.{is_listed}
-use Rattle.mum_rights_laws.proofs.Altered.{policy_none}
-use Rattle.mum_rights_laws.proofs.ChannelLaws.{of_kinds, there_was}
-use Rattle.mum_rights_laws.proofs.Settled.{linked, ruled}
-use Rattle.mum_rights_laws.proofs.TreeKinds.{IsKind, changes, makes, removes, rules}
+use Rattle.mum_rights_laws.proofs.Common.{◌≡◌, ◌≢◌, ℕ, ◌==◌, ◌&&◌, ◌||◌, not, Bool, true, false, cond, List, [], ◌∷◌, filter, find, map, Option, Some, None, refl, ap, sym, ◌∙◌, subst, unwrap_or, AllZip, is_some, option_map, option_map_or, eqb-true, ne_eqb, is_among, ChannelId, SessionId, AclMessage, AclGroup, AclLine, ChannelState, ChannelPolicy, Account, Group, is_there, are_linked, own_after, User, applied, IsProper, set_by, with_policy, PolicyRow, StateValue, policy_of, Edit, fit_proper, change_asked, channel, is_other, others, edit_to_change, account, accounts, entry_asked, group_asked, policy_asked, whom_asked, TreeMessage, Acl, IsEntryAsked, IsGroupAsked, IsPolicyAsked, IsWhomAsked, LinksAreDone, PoliciesAreDone, AsksToChange, is_listed}
+use Rattle.mum_rights_laws.proofs.{Altered.policy_none, ChannelLaws.of_kinds, ChannelLaws.there_was, Settled.linked, Settled.ruled, TreeKinds.IsKind, TreeKinds.changes, TreeKinds.makes, TreeKinds.removes, TreeKinds.rules}
 
 -- ---- links
 
--- of channels that are linked or parted, the channel itself is none
+-- of channels that are linked or unlinked, the channel itself is none
 listed_among : (id other : ChannelId) → other.0 ≢ id.0 → (numbers : List ℕ) → is_among (others id numbers) other ≡ is_listed numbers other
 listed_among id other apart [] = refl
 listed_among id other apart (n ∷ numbers) = step (n == id.0) refl (listed_among id other apart numbers)

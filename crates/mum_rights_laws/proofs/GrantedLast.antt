@@ -1,28 +1,5 @@
 -- A permission that is had is had by the lists.
-use Rattle.std.proofs.Common.{◌≡◌, ℕ, ◌^◌, ◌<◌, ◌≤◌, ◌==◌, ◌&&◌, ◌||◌, not, Bool, true, false, cond, List, [], ◌∷◌, ◌++◌, Some, refl, ap, sym, ◌∙◌, arith, bit_and, inl, inr, ⊎_elim, ◌⊎◌}
-use Rattle.std.specs.Prelude.{bit_or}
-use Rattle.std.specs.List.{All, find, list_all}
-use Rattle.std.specs.Option.{option_map}
-use Rattle.std.proofs.lemmas.Bool.{and_parts, both_ways, cases_Bool, eqb-true}
-use Rattle.std.proofs.lemmas.List.Elements.{All-cons, All-nil}
-use Rattle.std.proofs.lemmas.Nat.{and_le_l}
-use Rattle.mum_base.specs.Perm.{without_bits}
-use Rattle.mum_base.specs.declared.number.ChannelId.{ChannelId}
-use Rattle.mum_base.specs.declared.perm.TheConstants.Perm.{ALL, ROOT_ONLY, SPEAK, START, TRAVERSE, WHISPER, WRITE}
-use Rattle.mum_policy.specs.declared.policy.AclEntry.{AclEntry}
-use Rattle.mum_policy.specs.declared.policy.ChannelPolicy.{ChannelPolicy}
-use Rattle.mum_policy.specs.Laws.{AreDeniesIn32Bits, IsPermission, IsWayOpen, counting, held_after, is_held, is_super_user, matching, names_permission, passes}
-use Rattle.mum_policy.specs.Limits.{is_large_policy}
-use Rattle.mum_policy.specs.Member.{Actor, PolicyMap}
-use Rattle.mum_policy.specs.Walk.{full_set, holds, marked, on_root, perm as walked}
-use Rattle.mum_policy.proofs.Bits.{holds_and, holds_none}
-use Rattle.mum_policy.proofs.Decisions.{held_after-append, held_after-one}
-use Rattle.mum_policy.proofs.Held.{entries_decide, no_way, nothing_elsewhere, super_may_all}
-use Rattle.mum_tree.specs.Rows.{is_there, path}
-use Rattle.mum_state.specs.Permissions.{actor_with, granted_to}
-use Rattle.mum_state.specs.Proper.{IsProper, are_permissions, is_name, is_sound_entry, is_sound_policy}
-use Rattle.mum_state.specs.State.{PolicyRow, StateValue, policy_of}
-use Rattle.mum_rights_laws.specs.ByLists.{HasByLists, IsBrought, IsGranted, IsLeft, LeadsOn, NoneNames, RightsAreByLists}
+use Rattle.mum_rights_laws.proofs.Common.{◌≡◌, ℕ, ◌^◌, ◌<◌, ◌≤◌, ◌==◌, ◌&&◌, ◌||◌, not, Bool, true, false, cond, List, [], ◌∷◌, ◌++◌, Some, refl, ap, sym, ◌∙◌, arith, bit_and, inl, inr, ⊎_elim, ◌⊎◌, bit_or, All, find, list_all, option_map, and_parts, both_ways, cases_Bool, eqb-true, All-cons, All-nil, and_le_l, without_bits, ChannelId, ALL, ROOT_ONLY, SPEAK, START, TRAVERSE, WHISPER, WRITE, AclEntry, ChannelPolicy, AreDeniesIn32Bits, IsPermission, IsWayOpen, counting, held_after, is_held, is_super_user, matching, names_permission, passes, is_large_policy, Actor, PolicyMap, full_set, holds, marked, on_root, walked, holds_and, holds_none, held_after-append, held_after-one, entries_decide, no_way, nothing_elsewhere, super_may_all, is_there, path, actor_with, granted_to, IsProper, are_permissions, is_name, is_sound_entry, is_sound_policy, PolicyRow, StateValue, policy_of, HasByLists, IsBrought, IsGranted, IsLeft, LeadsOn, NoneNames, RightsAreByLists}
 
 -- ---- the last entry that names a permission
 

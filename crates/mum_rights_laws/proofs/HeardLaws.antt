@@ -1,38 +1,6 @@
 -- Whoever hears a packet is at a channel that it is aimed at, where the lists give the speaker what it needs.
-use Rattle.std.proofs.Common.{◌≡◌, ℕ, zero, suc, ◌&&◌, Bool, true, false, cond, List, [], ◌∷◌, ◌++◌, Option, Some, None, refl, ap, sym, ◌∙◌, subst, arith, inl, inr, ⊎_elim, ◌⊎◌}
-use Rattle.std.specs.List.{Contains, filter}
-use Rattle.std.specs.Option.{option_map, option_map_or}
-use Rattle.std.proofs.lemmas.Bool.{ne_eqb}
-use Rattle.std.proofs.lemmas.List.Elements.{All-contains}
-use Rattle.mum_base.specs.declared.number.ChannelId.{ChannelId}
-use Rattle.mum_base.specs.declared.number.SessionId.{SessionId}
-use Rattle.mum_base.specs.declared.perm.Perm.{Perm}
-use Rattle.mum_base.specs.declared.perm.TheConstants.Perm.{LISTEN, SPEAK, WHISPER}
-use Rattle.mum_policy.specs.Laws.{IsPermission}
-use Rattle.mum_policy.specs.Walk.{holds}
-use Rattle.mum_tree.specs.Rows.{is_there, path}
-use Rattle.mum_tree.specs.State.{below}
-use Rattle.mum_tree.specs.Walks.{linked}
-use Rattle.mum_users.specs.Sessions.{session_of}
-use Rattle.mum_users.specs.Targets.{target_of}
+use Rattle.mum_rights_laws.proofs.Common.{◌≡◌, ℕ, zero, suc, ◌&&◌, Bool, true, false, cond, List, [], ◌∷◌, ◌++◌, Option, Some, None, refl, ap, sym, ◌∙◌, subst, arith, inl, inr, ⊎_elim, ◌⊎◌, Contains, filter, option_map, option_map_or, ne_eqb, All-contains, ChannelId, SessionId, Perm, LISTEN, SPEAK, WHISPER, IsPermission, holds, is_there, path, below, linked, session_of, target_of, TargetItem, User, actor_from, granted_to, IsProper, StateValue, policy_of, Context, TALK, code, cover, spread, is_in_group, may_in_route, IsItemContext, IsTalkContext, Listens, Member, by_items, by_talk, items_of, route, each_hearing, found_number, found_own, item_context, kept_from, talk_context, HasByLists, IsAimedAt, IsAt, IsGrantedIn, TalkIsHeardByLists, WhispersAreHeardByLists, may}
 use Rattle.mum_users.specs.declared.target.Target.{Target}
-use Rattle.mum_users.specs.declared.target.TargetItem.{TargetItem}
-use Rattle.mum_users.specs.declared.user.User.{User}
-use Rattle.mum_state.specs.Permissions.{actor_from, granted_to}
-use Rattle.mum_state.specs.Proper.{IsProper}
-use Rattle.mum_state.specs.State.{StateValue, policy_of}
-use Rattle.mum_route.specs.declared.context.Context.{Context}
-use Rattle.mum_route.specs.declared.routes.TheConstants.{TALK}
-use Rattle.mum_route.specs.Context.{code}
-use Rattle.mum_route.specs.Cover.{cover, spread}
-use Rattle.mum_route.specs.Hearing.{is_in_group, may as may_in_route}
-use Rattle.mum_route.specs.Laws.{IsItemContext, IsTalkContext, Listens}
-use Rattle.mum_route.specs.Route.{Member, by_items, by_talk, items_of, route}
-use Rattle.mum_route.proofs.Hearers.{each_hearing, found_number, found_own}
-use Rattle.mum_route.proofs.Relations.{item_context, kept_from, talk_context}
-use Rattle.mum_rights_laws.specs.ByLists.{HasByLists}
-use Rattle.mum_rights_laws.specs.HeardByLists.{IsAimedAt, IsAt, IsGrantedIn, TalkIsHeardByLists, WhispersAreHeardByLists}
-use Rattle.mum_rights_laws.specs.Rights.{may}
 use Rattle.mum_rights_laws.proofs.GrantedLast.{rights_are_by_lists_lem}
 
 -- ---- lists

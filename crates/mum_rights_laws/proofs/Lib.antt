@@ -1,3 +1,4 @@
+mod Common
 mod Kept
 mod Settled
 mod Silenced

@@ -1,12 +1,6 @@
 -- Links of a channel with others leave all other pairs as they are.
-use Rattle.std.proofs.Common.{◌≡◌, ℕ, ◌==◌, ◌&&◌, ◌||◌, not, Bool, true, false, cond, List, [], ◌∷◌, refl, ap, ◌∙◌, arith}
-use Rattle.std.specs.List.{list_any}
-use Rattle.std.proofs.lemmas.Bool.{or_parts}
-use Rattle.std.proofs.lemmas.Bool.Decides.{nat_tests}
-use Rattle.mum_base.specs.declared.number.ChannelId.{ChannelId}
-use Rattle.mum_tree.specs.Change.{pairs_with_all, pairs_without_all}
-use Rattle.mum_tree.specs.State.{Pair, is_above, is_pair, pairs_with, pairs_without, with_pair}
-use Rattle.mum_tree.proofs.Partners.{pair_is}
+use Rattle.mum_rights_laws.proofs.Common.{◌≡◌, ℕ, ◌==◌, ◌&&◌, ◌||◌, not, Bool, true, false, cond, List, [], ◌∷◌, refl, ap, ◌∙◌, arith, list_any, or_parts, nat_tests, ChannelId, pairs_with_all, pairs_without_all, Pair, is_above, pairs_with, pairs_without, with_pair, pair_is}
+use Rattle.mum_tree.specs.State.{is_pair}
 use Rattle.mum_rights_laws.proofs.Kept.{any_kept}
 
 swapped_test : (x y i o : ℕ) → (((i == x) && (o == y)) || ((i == y) && (o == x))) ≡ false → ((o == x) && (i == y)) ≡ false

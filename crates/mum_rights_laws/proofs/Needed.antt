@@ -1,18 +1,5 @@
 -- Of needs that are all met, each is a permission that the actor has.
-use Rattle.std.proofs.Common.{◌≡◌, ℕ, ◌&&◌, ◌||◌, Bool, true, false, cond, List, [], ◌∷◌, ◌++◌, map, Some, None, refl, ap, sym, ◌∙◌}
-use Rattle.std.specs.List.{All}
-use Rattle.std.specs.Option.{option_map_or}
-use Rattle.std.proofs.lemmas.List.Elements.{All-cons, All-head, All-nil, All-tail}
-use Rattle.mum_base.specs.declared.number.ChannelId.{ChannelId}
-use Rattle.mum_base.specs.declared.perm.Perm.{Perm}
-use Rattle.mum_policy.specs.Walk.{holds}
-use Rattle.mum_tree.specs.Rows.{is_there}
-use Rattle.mum_users.specs.declared.user.User.{User}
-use Rattle.mum_state.specs.Permissions.{actor_with, granted_to}
-use Rattle.mum_state.specs.State.{StateValue}
-use Rattle.mum_rules_tree.specs.Decision.{Need, is_met, is_open, need, way}
-use Rattle.mum_rules_tree.specs.Laws.{AllMet}
-use Rattle.mum_rights_laws.specs.Rights.{may_with}
+use Rattle.mum_rights_laws.proofs.Common.{◌≡◌, ℕ, ◌&&◌, ◌||◌, Bool, true, false, cond, List, [], ◌∷◌, ◌++◌, map, Some, None, refl, ap, sym, ◌∙◌, All, option_map_or, All-cons, All-head, All-nil, All-tail, ChannelId, Perm, holds, is_there, User, actor_with, granted_to, StateValue, Need, is_met, is_open, need, way, AllMet, may_with}
 
 pub or_none : (a : Bool) → (a || false) ≡ true → a ≡ true
 or_none true on = refl

@@ -1,49 +1,8 @@
 -- What a message on users leaves as it is.
-use Rattle.std.proofs.Common.{◌≡◌, ◌≢◌, ℕ, ◌==◌, ◌&&◌, ◌||◌, not, Bool, true, false, arith, List, [], ◌∷◌, length, Option, Some, None, refl, ap, sym, ◌∙◌, subst, inl, inr, ⊎_elim, ◌⊎◌}
-use Rattle.std.specs.List.{All, find, list_any}
-use Rattle.std.specs.Option.{is_some, option_map}
-use Rattle.std.proofs.lemmas.Bool.{and_parts, both_ways, eq-eqb, ne_eqb, not-false, or_parts}
-use Rattle.std.proofs.lemmas.List.Elements.{All-head, All-tail}
-use Rattle.mum_base.specs.Channels.{is_among}
-use Rattle.mum_base.specs.declared.number.ChannelId.{ChannelId}
-use Rattle.mum_base.specs.declared.number.SessionId.{SessionId}
-use Rattle.mum_base.specs.declared.perm.TheConstants.Perm.{LISTEN}
-use Rattle.mum_msg_state.specs.declared.user_state.UserState.{UserState}
-use Rattle.mum_tree.specs.Rows.{is_there, row_of}
-use Rattle.mum_tree.specs.State.{are_linked}
-use Rattle.mum_tree.specs.declared.channel.Row.{Row}
-use Rattle.mum_users.specs.Edit.{UserEdit, changed_user, edited}
-use Rattle.mum_users.specs.Listeners.{listens}
-use Rattle.mum_users.specs.Sessions.{session_of}
-use Rattle.mum_users.specs.State.{has_number, is_pair, is_target}
-use Rattle.mum_users.specs.Targets.{target_of}
+use Rattle.mum_rights_laws.proofs.Common.{◌≡◌, ◌≢◌, ℕ, ◌==◌, ◌&&◌, ◌||◌, not, Bool, true, false, arith, List, [], ◌∷◌, length, Option, Some, None, refl, ap, sym, ◌∙◌, subst, inl, inr, ⊎_elim, ◌⊎◌, All, find, list_any, is_some, option_map, and_parts, both_ways, eq-eqb, ne_eqb, not-false, or_parts, All-head, All-tail, is_among, ChannelId, SessionId, LISTEN, UserState, is_there, row_of, are_linked, Row, UserEdit, changed_user, edited, listens, session_of, has_number, is_pair, is_target, target_of, TargetRow, User, listens_as_told_lem, others_listen_as_before_lem, applied, is_empty, user_parts, IsProper, set_by, ChannelPolicy, PolicyRow, StateValue, policy_of, Edit, fit_proper, heard_after, silent_after, channels, is_oneself, new_channel, number_of_target, session_or, sets_own, target_asked, tokens_kept, UserMessage, Changes, ListensWherePermitted, OthersKeepTheirOwn, SessionsStayWhoTheyAre, may_with, IsEmptied, IsSetAsBefore, ChannelsStand, ChannelsStandIn, SettingsStand}
 use Rattle.mum_users.specs.declared.target.Target.{Target}
-use Rattle.mum_users.specs.declared.target.TargetRow.{TargetRow}
-use Rattle.mum_users.specs.declared.user.User.{User}
-use Rattle.mum_users.proofs.Told.{listens_as_told_lem, others_listen_as_before_lem}
-use Rattle.mum_state.specs.Applied.{applied}
-use Rattle.mum_state.specs.Kinds.{is_empty}
-use Rattle.mum_state.specs.Parts.{user_parts}
-use Rattle.mum_state.specs.Proper.{IsProper}
-use Rattle.mum_state.specs.Set.{set_by}
-use Rattle.mum_policy.specs.declared.policy.ChannelPolicy.{ChannelPolicy}
-use Rattle.mum_state.specs.State.{PolicyRow, StateValue, policy_of}
-use Rattle.mum_state.specs.declared.edit.Edit.{Edit}
-use Rattle.mum_state.proofs.Keeping.{fit_proper}
-use Rattle.mum_state.proofs.Suppressed.{heard_after, silent_after}
-use Rattle.mum_rules_user.specs.Asked.{channels, is_oneself, new_channel, number_of_target, session_or, sets_own, target_asked}
 use Rattle.mum_rules_user.specs.Outcome.{edit_to_change}
-use Rattle.mum_rules_user.specs.Login.{tokens_kept}
-use Rattle.mum_rules_user.specs.declared.message.UserMessage.{UserMessage}
-use Rattle.mum_rules_user.specs.declared.message.UserMessage.TheVariants.{User as Changes}
-use Rattle.mum_rights_laws.specs.Own.{ListensWherePermitted, OthersKeepTheirOwn, SessionsStayWhoTheyAre}
-use Rattle.mum_rights_laws.specs.Rights.{may_with}
-use Rattle.mum_rights_laws.specs.Standing.{IsEmptied, IsSetAsBefore}
-use Rattle.mum_rights_laws.specs.Untouched.{ChannelsStand, ChannelsStandIn, SettingsStand}
-use Rattle.mum_rights_laws.proofs.Seated.{goes, left_aims, left_listens, seated, targeted_beside, targeted_limit, targeted_listeners, was_there}
-use Rattle.mum_rights_laws.proofs.SessionLaws.{if_so, it_is, none_given, number_is, of_rows, of_user}
-use Rattle.mum_rights_laws.proofs.Settled.{aims as aims_are, emptied, lasting, linked, listening, ruled, same_channel, same_session}
-use Rattle.mum_rights_laws.proofs.UserKinds.{IsUserKind, aims, change_of, changes, kicks, leaves, renews, says, user_edit}
+use Rattle.mum_rights_laws.proofs.{Seated.goes, Seated.left_aims, Seated.left_listens, Seated.seated, Seated.targeted_beside, Seated.targeted_limit, Seated.targeted_listeners, Seated.was_there, SessionLaws.if_so, SessionLaws.it_is, SessionLaws.none_given, SessionLaws.number_is, SessionLaws.of_rows, SessionLaws.of_user, Settled.aims as aims_are, Settled.emptied, Settled.lasting, Settled.linked, Settled.listening, Settled.ruled, Settled.same_channel, Settled.same_session, UserKinds.IsUserKind, UserKinds.aims, UserKinds.change_of, UserKinds.changes, UserKinds.kicks, UserKinds.leaves, UserKinds.renews, UserKinds.says, UserKinds.user_edit}
 
 abbrev find_policy : ChannelId → List PolicyRow → Option ChannelPolicy
 find_policy id rows = option_map (λ (row : PolicyRow). row.policy) (find (λ (row : PolicyRow). row.channel.0 == id.0) rows)

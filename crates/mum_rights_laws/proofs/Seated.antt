@@ -1,34 +1,7 @@
 -- What an accepted message on users sets of sessions, of what they listen to and of their voice targets.
-use Rattle.std.proofs.Common.{◌≡◌, ℕ, ◌==◌, ◌&&◌, not, Bool, true, false, cond, List, [], ◌∷◌, length, Option, Some, None, refl, ap, sym, ◌∙◌, arith}
-use Rattle.std.specs.List.{filter, find}
-use Rattle.std.specs.Option.{option_map, option_map_or}
-use Rattle.std.proofs.lemmas.Bool.Decides.{nat_tests}
-use Rattle.std.proofs.lemmas.Bool.{and_parts, both_ways, eq-eqb, eqb-true, ne_eqb}
-use Rattle.mum_base.specs.declared.number.ChannelId.{ChannelId}
-use Rattle.mum_base.specs.declared.number.SessionId.{SessionId}
-use Rattle.mum_users.specs.Edit.{UserEdit, changed_user}
-use Rattle.mum_users.specs.Listeners.{listens}
-use Rattle.mum_users.specs.Sessions.{left, session_of}
-use Rattle.mum_users.specs.State.{RosterState, has_number, is_of, is_of_session, is_pair, is_target}
-use Rattle.mum_users.specs.Targets.{target_below, target_of, targeted, with_target}
-use Rattle.mum_users.specs.declared.listening.ListenerPair.{ListenerPair}
+use Rattle.mum_rights_laws.proofs.Common.{◌≡◌, ℕ, ◌==◌, ◌&&◌, not, Bool, true, false, cond, List, [], ◌∷◌, length, Option, Some, None, refl, ap, sym, ◌∙◌, arith, filter, find, option_map, option_map_or, nat_tests, and_parts, both_ways, eq-eqb, eqb-true, ne_eqb, ChannelId, SessionId, UserEdit, changed_user, listens, left, session_of, RosterState, has_number, is_of, is_of_session, is_pair, is_target, target_below, target_of, targeted, with_target, ListenerPair, TargetRow, User, applied, session_edit, set_by, StateValue, Edit, Kicks, Leaves, SetTokens, targeted_sessions, heard, silent_after, number_of_target, session_or, target_asked, tokens_kept, UserMessage}
 use Rattle.mum_users.specs.declared.target.Target.{Target}
-use Rattle.mum_users.specs.declared.target.TargetRow.{TargetRow}
-use Rattle.mum_users.specs.declared.user.User.{User}
-use Rattle.mum_state.specs.Applied.{applied}
-use Rattle.mum_state.specs.Parts.{session_edit}
-use Rattle.mum_state.specs.Set.{set_by}
-use Rattle.mum_state.specs.State.{StateValue}
-use Rattle.mum_state.specs.declared.edit.Edit.{Edit}
-use Rattle.mum_state.specs.declared.edit.Edit.TheVariants.{Kick as Kicks, Leave as Leaves, SetTokens}
-use Rattle.mum_state.proofs.Renewing.{targeted_sessions}
-use Rattle.mum_state.proofs.Suppressed.{heard, silent_after}
-use Rattle.mum_rules_user.specs.Asked.{number_of_target, session_or, target_asked}
-use Rattle.mum_rules_user.specs.Login.{tokens_kept}
-use Rattle.mum_rules_user.specs.declared.message.UserMessage.{UserMessage}
-use Rattle.mum_rights_laws.proofs.Kept.{any_kept, found_kept, found_mapped, none_kept}
-use Rattle.mum_rights_laws.proofs.Settled.{found_as, gone_as}
-use Rattle.mum_rights_laws.proofs.UserKinds.{IsUserKind, aims, change_of, changes, kicks, leaves, renews, says}
+use Rattle.mum_rights_laws.proofs.{Kept.any_kept, Kept.found_kept, Kept.found_mapped, Kept.none_kept, Settled.found_as, Settled.gone_as, UserKinds.IsUserKind, UserKinds.aims, UserKinds.change_of, UserKinds.changes, UserKinds.kicks, UserKinds.leaves, UserKinds.renews, UserKinds.says}
 
 -- ---- rows
 

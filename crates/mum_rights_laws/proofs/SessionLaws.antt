@@ -1,45 +1,6 @@
 -- What a message on users changes of sessions is permitted.
-use Rattle.std.proofs.Common.{◌≡◌, ◌≢◌, ℕ, ◌==◌, ◌||◌, not, Bool, true, false, cond, List, Option, Some, None, refl, ap, sym, ◌∙◌, subst, inl, inr, ⊎_elim, ◌⊎◌}
-use Rattle.std.specs.Option.{is_some, option_map_or, unwrap_or}
-use Rattle.std.proofs.lemmas.Bool.{and_parts, both_ways, cases_Bool, eq-eqb, or_parts}
-use Rattle.mum_base.specs.declared.number.AccountId.{AccountId}
-use Rattle.mum_base.specs.declared.number.ChannelId.{ChannelId}
-use Rattle.mum_base.specs.declared.number.SessionId.{SessionId}
-use Rattle.mum_base.specs.declared.number.TheConstants.AccountId.{SUPER_USER}
-use Rattle.mum_base.specs.declared.number.TheConstants.ChannelId.{ROOT}
-use Rattle.mum_base.specs.declared.perm.TheConstants.Perm.{BAN, SPEAK}
-use Rattle.mum_msg_state.specs.declared.user_state.UserState.{UserState}
-use Rattle.mum_policy.specs.Walk.{is_account}
-use Rattle.mum_users.specs.Edit.{changed_user}
-use Rattle.mum_users.specs.Flags.{silence_after}
-use Rattle.mum_users.specs.Sessions.{session_of}
-use Rattle.mum_users.specs.State.{has_number}
-use Rattle.mum_users.specs.declared.user.User.{User}
-use Rattle.mum_state.specs.Applied.{applied}
-use Rattle.mum_state.specs.Fits.{fits}
-use Rattle.mum_state.specs.Kinds.{sets_policy, sets_tokens_of}
-use Rattle.mum_state.specs.Proper.{IsProper}
-use Rattle.mum_state.specs.Set.{set_by}
-use Rattle.mum_state.specs.State.{StateValue}
-use Rattle.mum_state.specs.Suppression.{is_cleared}
-use Rattle.mum_state.specs.declared.edit.Edit.{Edit}
-use Rattle.mum_state.specs.declared.edit.Edit.TheVariants.{Kick as Kicks}
-use Rattle.mum_state.proofs.Each.{found_passes}
-use Rattle.mum_state.proofs.Suppressed.{silent_after}
-use Rattle.mum_rules_user.specs.Asked.{clears_suppression, is_oneself, new_channel, rules_speech, session_or}
-use Rattle.mum_rules_user.specs.Login.{tokens_kept}
-use Rattle.mum_rules_user.specs.declared.message.UserMessage.{UserMessage}
-use Rattle.mum_rules_user.specs.declared.message.UserMessage.TheVariants.{Join, User as Changes, Leave}
-use Rattle.mum_rights_laws.specs.Departures.{BansWherePermitted, GoesWherePermitted, IsKicked, NobodyComes}
-use Rattle.mum_rights_laws.specs.Moves.{Enters, IsMoved, MovesArePermitted}
-use Rattle.mum_rights_laws.specs.Rights.{may}
-use Rattle.mum_rights_laws.specs.Speech.{LogsInAgain, MayRuleSpeech, SpeechIsRuledWherePermitted, SuppressionIsRuledWherePermitted}
-use Rattle.mum_rights_laws.specs.Standing.{OfStaying}
-use Rattle.mum_rights_laws.specs.UserCommands.{IsAbout, OfUserCommands}
-use Rattle.mum_rights_laws.proofs.Seated.{goes, seated, was_there, went}
-use Rattle.mum_rights_laws.proofs.Settled.{same_session}
-use Rattle.mum_rights_laws.proofs.Silenced.{silenced}
-use Rattle.mum_rights_laws.proofs.UserKinds.{IsUserKind, MayChange, aims, change_of, changes, kicks, leaves, renews, says, user_edit}
+use Rattle.mum_rights_laws.proofs.Common.{◌≡◌, ◌≢◌, ℕ, ◌==◌, ◌||◌, not, Bool, true, false, cond, List, Option, Some, None, refl, ap, sym, ◌∙◌, subst, inl, inr, ⊎_elim, ◌⊎◌, is_some, option_map_or, unwrap_or, and_parts, both_ways, cases_Bool, eq-eqb, or_parts, AccountId, ChannelId, SessionId, SUPER_USER, ROOT, BAN, SPEAK, UserState, is_account, changed_user, silence_after, session_of, has_number, User, applied, fits, sets_policy, sets_tokens_of, IsProper, set_by, StateValue, is_cleared, Edit, Kicks, found_passes, silent_after, clears_suppression, is_oneself, new_channel, rules_speech, session_or, tokens_kept, UserMessage, Join, Changes, Leave, BansWherePermitted, GoesWherePermitted, IsKicked, NobodyComes, Enters, IsMoved, MovesArePermitted, may, LogsInAgain, MayRuleSpeech, SpeechIsRuledWherePermitted, SuppressionIsRuledWherePermitted, OfStaying, IsAbout, OfUserCommands}
+use Rattle.mum_rights_laws.proofs.{Seated.goes, Seated.seated, Seated.was_there, Seated.went, Settled.same_session, Silenced.silenced, UserKinds.IsUserKind, UserKinds.MayChange, UserKinds.aims, UserKinds.change_of, UserKinds.changes, UserKinds.kicks, UserKinds.leaves, UserKinds.renews, UserKinds.says, UserKinds.user_edit}
 
 -- ---- from what each edit makes of a row to what a law says
 

@@ -1,28 +1,5 @@
 -- What an edit leaves is what it sets, but for suppression and for temporary channels that are emptied.
-use Rattle.std.proofs.Common.{◌≡◌, ◌==◌, ◌&&◌, not, Bool, true, false, Option, Some, None, refl, ap, sym, ◌∙◌}
-use Rattle.std.specs.List.{filter, find, list_any}
-use Rattle.std.specs.Option.{is_some, option_map}
-use Rattle.std.proofs.lemmas.Bool.{and_parts, eqb-true, not-true}
-use Rattle.mum_base.specs.declared.number.ChannelId.{ChannelId}
-use Rattle.mum_base.specs.declared.number.SessionId.{SessionId}
-use Rattle.mum_tree.specs.Rows.{is_there, row_of}
-use Rattle.mum_tree.specs.State.{Pair, are_linked, is_pair as is_link}
-use Rattle.mum_tree.specs.declared.channel.Row.{Row}
-use Rattle.mum_tree.proofs.Shrunk.{kept_row, there_after}
-use Rattle.mum_users.specs.Listeners.{listens}
-use Rattle.mum_users.specs.Sessions.{session_of}
-use Rattle.mum_users.specs.State.{has_number, is_pair}
-use Rattle.mum_users.specs.declared.listening.ListenerPair.{ListenerPair}
-use Rattle.mum_users.specs.declared.user.User.{User}
-use Rattle.mum_state.specs.Applied.{applied}
-use Rattle.mum_state.specs.Emptied.{has_member, is_emptied}
-use Rattle.mum_state.specs.Proper.{IsProper}
-use Rattle.mum_state.specs.Set.{set_by}
-use Rattle.mum_state.specs.State.{PolicyRow, StateValue, policy_of}
-use Rattle.mum_state.specs.declared.edit.Edit.{Edit}
-use Rattle.mum_state.proofs.Each.{shown}
-use Rattle.mum_state.proofs.Suppressed.{heard, heard_after, silent_after}
-use Rattle.mum_rights_laws.specs.Standing.{IsEmptied}
+use Rattle.mum_rights_laws.proofs.Common.{◌≡◌, ◌==◌, ◌&&◌, not, Bool, true, false, Option, Some, None, refl, ap, sym, ◌∙◌, filter, find, list_any, is_some, option_map, and_parts, eqb-true, not-true, ChannelId, SessionId, is_there, row_of, Pair, are_linked, is_link, Row, kept_row, there_after, listens, session_of, has_number, is_pair, ListenerPair, User, applied, has_member, is_emptied, IsProper, set_by, PolicyRow, StateValue, policy_of, Edit, shown, heard, heard_after, silent_after, IsEmptied}
 use Rattle.mum_rights_laws.proofs.Kept.{any_kept, found_kept, found_mapped}
 
 pub same_channel : (one other : ChannelId) → (one.0 == other.0) ≡ true → one ≡ other

@@ -1,34 +1,11 @@
--- Whether a session is suppressed changes only where an edit clears it or sets it anew.
-use Rattle.std.proofs.Common.{◌≡◌, ◌≢◌, ◌==◌, ◌&&◌, ◌||◌, not, Bool, true, false, cond, Some, refl, ap, sym, ◌∙◌, inl, inr, ⊎_elim, ◌⊎◌}
-use Rattle.std.specs.List.{list_any}
-use Rattle.std.proofs.lemmas.Bool.{and_from, both_ways, cases_Bool, eq-eqb, not-true}
-use Rattle.mum_base.specs.declared.number.SessionId.{SessionId}
-use Rattle.mum_base.specs.declared.perm.TheConstants.Perm.{SPEAK}
-use Rattle.mum_tree.specs.Rows.{is_there}
-use Rattle.mum_users.specs.Sessions.{session_of}
-use Rattle.mum_users.specs.State.{has_number, is_in}
-use Rattle.mum_users.specs.declared.user.User.{User}
-use Rattle.mum_state.specs.Applied.{applied}
-use Rattle.mum_state.specs.Fits.{fits}
-use Rattle.mum_state.specs.Kinds.{sets_policy, sets_tokens_of}
-use Rattle.mum_state.specs.Permissions.{may_speak}
-use Rattle.mum_state.specs.Proper.{IsProper}
-use Rattle.mum_state.specs.Set.{set_by}
-use Rattle.mum_state.specs.State.{StateValue}
-use Rattle.mum_state.specs.Suppression.{is_cleared, is_newcomer, is_set_anew}
-use Rattle.mum_state.specs.declared.edit.Edit.{Edit}
-use Rattle.mum_state.specs.declared.edit.Edit.TheVariants.{SetTokens}
-use Rattle.mum_state.proofs.Each.{each_find, each_passes, passing_any}
-use Rattle.mum_state.proofs.Keeping.{fit_proper}
-use Rattle.mum_state.proofs.Silent.{suppressed_where_silent_lem}
-use Rattle.mum_state.proofs.Suppressed.{heard, silent_after, silent_anew}
-use Rattle.mum_rights_laws.specs.Rights.{may}
+-- Whether a session is suppressed changes only where an edit clears it or sets it again.
+use Rattle.mum_rights_laws.proofs.Common.{◌≡◌, ◌≢◌, ◌==◌, ◌&&◌, ◌||◌, not, Bool, true, false, cond, Some, refl, ap, sym, ◌∙◌, inl, inr, ⊎_elim, ◌⊎◌, list_any, and_from, both_ways, cases_Bool, eq-eqb, not-true, SessionId, SPEAK, is_there, session_of, has_number, is_in, User, applied, fits, sets_policy, sets_tokens_of, may_speak, IsProper, set_by, StateValue, is_cleared, is_newcomer, is_set_anew, Edit, SetTokens, each_find, each_passes, passing_any, fit_proper, suppressed_where_silent_lem, heard, silent_after, silent_anew, may}
 
 tokens_heard : (edit : Edit) (silent : User → Bool) (user : User) → sets_tokens_of edit (heard silent user) ≡ sets_tokens_of edit user
 tokens_heard (SetTokens session tokens) silent user = refl
 tokens_heard edit silent user = refl
 
--- the edit sets it anew: the session is in another channel, its tokens are set, or a policy is
+-- the edit sets it again: the session is in another channel, its tokens are set, or a policy is
 abbrev pub IsAnew : Edit → User → User → User → Type 0
 IsAnew edit was mid now = (now.channel ≢ was.channel) ⊎ ((sets_tokens_of edit mid ≡ true) ⊎ (sets_policy edit ≡ true))
 

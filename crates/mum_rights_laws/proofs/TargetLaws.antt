@@ -1,33 +1,6 @@
 -- Voice targets are those of the message that sets them.
-use Rattle.std.proofs.Common.{◌≡◌, ℕ, ◌==◌, ◌&&◌, ◌||◌, not, Bool, true, false, cond, List, [], ◌∷◌, filter, find, map, Option, Some, None, refl, ap, sym, ◌∙◌, subst, arith}
-use Rattle.std.specs.Prelude.{length, nat_lt, unwrap_or}
-use Rattle.std.specs.List.{AllZip}
-use Rattle.std.specs.Option.{option_map}
-use Rattle.std.proofs.lemmas.Bool.{and_from, eq-eqb, ne_eqb}
-use Rattle.std.proofs.lemmas.Bool.Decides.{nat_tests}
-use Rattle.mum_base.specs.declared.number.SessionId.{SessionId}
-use Rattle.mum_msg_rule.specs.declared.target_block.TargetBlock.{TargetBlock}
-use Rattle.mum_msg_rule.specs.declared.voice_target.VoiceTarget.{VoiceTarget}
-use Rattle.mum_users.specs.declared.target.Target.{Target as VoiceTargets}
-use Rattle.mum_users.specs.declared.target.TargetItem.{TargetItem}
-use Rattle.mum_users.specs.declared.target.TargetRow.{TargetRow}
-use Rattle.mum_users.specs.declared.user.User.{User}
-use Rattle.mum_users.specs.State.{RosterState, is_target}
-use Rattle.mum_users.specs.Targets.{target_below, target_of, targeted, with_target}
-use Rattle.mum_state.specs.Applied.{applied}
-use Rattle.mum_state.specs.Set.{set_by}
-use Rattle.mum_state.specs.State.{StateValue}
-use Rattle.mum_state.specs.declared.edit.Edit.{Edit}
-use Rattle.mum_state.specs.declared.edit.Edit.TheVariants.{SetTarget}
-use Rattle.mum_rules_tree.specs.Asked.{channel}
-use Rattle.mum_rules_user.specs.Asked.{item_asked, number_of_target, session_numbered, target_asked}
-use Rattle.mum_rules_user.specs.declared.message.UserMessage.{UserMessage}
-use Rattle.mum_rules_user.specs.declared.message.UserMessage.TheVariants.{Target}
-use Rattle.mum_rights_laws.specs.Targets.{IsItemAsked, IsTargetAsked, TargetsAreDone}
-use Rattle.mum_rights_laws.proofs.Kept.{none_kept}
-use Rattle.mum_rights_laws.proofs.SessionLaws.{number_is}
-use Rattle.mum_rights_laws.proofs.Settled.{aims as aims_are}
-use Rattle.mum_rights_laws.proofs.UserKinds.{IsUserKind, aims, changes as alters, kicks, leaves, renews, says, user_edit}
+use Rattle.mum_rights_laws.proofs.Common.{◌≡◌, ℕ, ◌==◌, ◌&&◌, ◌||◌, not, Bool, true, false, cond, List, [], ◌∷◌, filter, find, map, Option, Some, None, refl, ap, sym, ◌∙◌, subst, arith, length, nat_lt, unwrap_or, AllZip, option_map, and_from, eq-eqb, ne_eqb, nat_tests, SessionId, TargetBlock, VoiceTarget, VoiceTargets, TargetItem, TargetRow, User, RosterState, is_target, target_below, target_of, targeted, with_target, applied, set_by, StateValue, Edit, SetTarget, channel, item_asked, number_of_target, session_numbered, target_asked, UserMessage, Target, IsItemAsked, IsTargetAsked, TargetsAreDone}
+use Rattle.mum_rights_laws.proofs.{Kept.none_kept, SessionLaws.number_is, Settled.aims as aims_are, UserKinds.IsUserKind, UserKinds.aims, UserKinds.changes as alters, UserKinds.kicks, UserKinds.leaves, UserKinds.renews, UserKinds.says, UserKinds.user_edit}
 
 targets_numbered : (listed : List ℕ) → map (λ session. session.0) (map session_numbered listed) ≡ listed
 targets_numbered [] = refl

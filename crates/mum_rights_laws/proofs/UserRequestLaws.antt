@@ -1,46 +1,7 @@
 -- What a message on users asks for is what changes of sessions, and nothing else does.
-use Rattle.std.proofs.Common.{◌≡◌, ◌≢◌, ℕ, ◌==◌, ◌&&◌, ◌||◌, not, Bool, true, false, cond, List, Option, Some, None, refl, ap, sym, ◌∙◌, subst, ⊎_elim, inl, inr, ◌⊎◌}
-use Rattle.std.specs.List.{find}
-use Rattle.std.specs.Option.{option_map, option_map_or, unwrap_or}
-use Rattle.std.proofs.lemmas.Bool.{and_from, eq-eqb, eqb-true}
-use Rattle.mum_base.specs.Channels.{is_among}
-use Rattle.mum_base.specs.declared.number.ChannelId.{ChannelId}
-use Rattle.mum_base.specs.declared.number.SessionId.{SessionId}
-use Rattle.mum_base.specs.declared.number.TheConstants.ChannelId.{ROOT}
-use Rattle.mum_msg_rule.specs.declared.voice_target.VoiceTarget.{VoiceTarget}
-use Rattle.mum_msg_state.specs.declared.authenticate.Authenticate.{Authenticate}
-use Rattle.mum_msg_state.specs.declared.user_state.UserState.{UserState}
-use Rattle.mum_tree.specs.Rows.{is_there}
-use Rattle.mum_users.specs.Edit.{changed_user, edited}
-use Rattle.mum_users.specs.Flags.{silence_after}
-use Rattle.mum_users.specs.Listeners.{listens}
-use Rattle.mum_users.specs.Sessions.{session_of}
-use Rattle.mum_users.specs.Targets.{target_of, targeted}
-use Rattle.mum_users.specs.declared.target.TargetRow.{TargetRow}
-use Rattle.mum_users.specs.State.{has_number, is_target}
-use Rattle.mum_users.specs.declared.user.User.{User}
-use Rattle.mum_users.proofs.Told.{listens_as_told_lem}
-use Rattle.mum_state.specs.Applied.{applied}
-use Rattle.mum_state.specs.Set.{set_by}
-use Rattle.mum_state.specs.State.{StateValue}
-use Rattle.mum_state.specs.Suppression.{is_cleared}
-use Rattle.mum_state.specs.declared.edit.Edit.{Edit}
-use Rattle.mum_state.proofs.Each.{any_map}
-use Rattle.mum_state.proofs.Suppressed.{silent_after, silent_anew}
-use Rattle.mum_rules_tree.specs.Asked.{channel, given_unless}
-use Rattle.mum_rules_user.specs.Asked.{channel_of, channels, clears_suppression, number_of_target, session_or, target_asked}
-use Rattle.mum_rules_user.specs.Login.{tokens_kept}
+use Rattle.mum_rights_laws.proofs.Common.{◌≡◌, ◌≢◌, ℕ, ◌==◌, ◌&&◌, ◌||◌, not, Bool, true, false, cond, List, Option, Some, None, refl, ap, sym, ◌∙◌, subst, ⊎_elim, inl, inr, ◌⊎◌, find, option_map, option_map_or, unwrap_or, and_from, eq-eqb, eqb-true, is_among, ChannelId, SessionId, ROOT, VoiceTarget, Authenticate, UserState, is_there, changed_user, edited, silence_after, listens, session_of, target_of, targeted, TargetRow, has_number, is_target, User, listens_as_told_lem, applied, set_by, StateValue, is_cleared, Edit, any_map, silent_after, silent_anew, channel, given_unless, channel_of, channels, clears_suppression, number_of_target, session_or, target_asked, tokens_kept, UserMessage, Join, Target, Changes, LogsInAgain, MayRuleSpeech, IsAbout, is_listed, IsAsAsked, LoginsRenewTokens, OtherTargetsStand, TheUnnamedStand, UserStatesAreDone, deaf_asked, mute_asked}
 use Rattle.mum_rules_user.specs.Outcome.{edit_to_change}
-use Rattle.mum_rules_user.specs.declared.message.UserMessage.{UserMessage}
-use Rattle.mum_rules_user.specs.declared.message.UserMessage.TheVariants.{Join, Target, User as Changes}
-use Rattle.mum_rights_laws.specs.Speech.{LogsInAgain, MayRuleSpeech}
-use Rattle.mum_rights_laws.specs.UserCommands.{IsAbout}
-use Rattle.mum_rights_laws.specs.Listed.{is_listed}
-use Rattle.mum_rights_laws.specs.UserRequests.{IsAsAsked, LoginsRenewTokens, OtherTargetsStand, TheUnnamedStand, UserStatesAreDone, deaf_asked, mute_asked}
-use Rattle.mum_rights_laws.proofs.Seated.{goes, left_aims, seated, targeted_apart, was_there}
-use Rattle.mum_rights_laws.proofs.SessionLaws.{number_is, suppressed_by}
-use Rattle.mum_rights_laws.proofs.Settled.{aims as aims_are, listening, same_session}
-use Rattle.mum_rights_laws.proofs.UserKinds.{IsUserKind, aims, change_of, changes, kicks, leaves, renews, says, user_edit}
+use Rattle.mum_rights_laws.proofs.{Seated.goes, Seated.left_aims, Seated.seated, Seated.targeted_apart, Seated.was_there, SessionLaws.number_is, SessionLaws.suppressed_by, Settled.aims as aims_are, Settled.listening, Settled.same_session, UserKinds.IsUserKind, UserKinds.aims, UserKinds.change_of, UserKinds.changes, UserKinds.kicks, UserKinds.leaves, UserKinds.renews, UserKinds.says, UserKinds.user_edit}
 
 -- ---- flags and the channel
 

@@ -1,17 +1,14 @@
 -- What a session may do, in words of the entries of the access control lists on the way to a channel.
 use Rattle.std.specs.Prelude.{◌≡◌, ◌≢◌, ◌⊎◌, ℕ, ◌||◌, not, Bool, true, false, List, [], ◌∷◌, ◌++◌, IsTrue}
 use Rattle.std.specs.List.{All}
-use Rattle.mum_base.specs.declared.number.ChannelId.{ChannelId}
-use Rattle.mum_base.specs.declared.perm.Perm.{Perm}
+use Rattle.mum_base.specs.declared.{number.ChannelId.ChannelId, perm.Perm.Perm}
 use Rattle.mum_base.specs.declared.perm.TheConstants.Perm.{ROOT_ONLY, SPEAK, START, TRAVERSE, WHISPER, WRITE}
 use Rattle.mum_policy.specs.declared.policy.AclEntry.{AclEntry}
 use Rattle.mum_policy.specs.Laws.{IsPermission, counting, is_super_user, matching, names_permission}
-use Rattle.mum_policy.specs.Member.{Actor, PolicyMap}
-use Rattle.mum_policy.specs.Walk.{holds, on_root}
+use Rattle.mum_policy.specs.{Member.Actor, Member.PolicyMap, Walk.holds, Walk.on_root}
 use Rattle.mum_tree.specs.Rows.{path}
 use Rattle.mum_users.specs.declared.user.User.{User}
-use Rattle.mum_state.specs.Proper.{IsProper}
-use Rattle.mum_state.specs.State.{StateValue, policy_of}
+use Rattle.mum_state.specs.{Proper.IsProper, State.StateValue, State.policy_of}
 use Rattle.mum_rights_laws.specs.Rights.{may_with}
 
 -- none of these entries grants or denies the permission
@@ -66,6 +63,7 @@ seen state user tokens = record { account = user.account; channel = user.channel
 -- who has a permission has it by the lists
 abbrev pub RightsAreByLists : Type 0
 RightsAreByLists =
-    (state : StateValue) (user : User) (tokens : List (List ℕ)) (perm : Perm) (channel : ChannelId) → IsProper state → IsPermission perm.0
+    (state : StateValue) (user : User) (tokens : List (List ℕ)) (perm : Perm) (channel : ChannelId) → IsProper state
+    → IsPermission perm.0
     → IsTrue (may_with state user tokens perm channel)
     → HasByLists (policy_of state) (path state.tree.channels channel) (seen state user tokens) perm.0

@@ -1,13 +1,11 @@
 -- What a message on channels asks for is what changes of channels, and nothing else does.
 use Rattle.std.specs.Prelude.{◌≡◌, false, pos, [], Some, None, unwrap_or}
 use Rattle.mum_base.specs.declared.number.ChannelId.{ChannelId}
-use Rattle.mum_msg_state.specs.declared.channel_state.ChannelState.{ChannelState}
 use Rattle.mum_tree.specs.Rows.{row_of}
-use Rattle.mum_tree.specs.declared.channel.Channel.{Channel}
-use Rattle.mum_tree.specs.declared.channel.Row.{Row}
+use Rattle.mum_tree.specs.declared.channel.{Channel.Channel, Row.Row}
+use Rattle.mum_msg_state.specs.declared.channel_state.ChannelState.{ChannelState}
 use Rattle.mum_rules_tree.specs.declared.message.TreeMessage.TheVariants.{State}
-use Rattle.mum_rights_laws.specs.Standing.{OfLasting}
-use Rattle.mum_rights_laws.specs.TreeCommands.{AsksToChange, OfTreeCommands}
+use Rattle.mum_rights_laws.specs.{Standing.OfLasting, TreeCommands.AsksToChange, TreeCommands.OfTreeCommands}
 
 -- the channel is as the message asks, and what is not asked is as it was
 pub record IsChanged (asked : ChannelState) (was now : Channel) : Type 0 where
@@ -19,7 +17,8 @@ pub record IsChanged (asked : ChannelState) (was now : Channel) : Type 0 where
 
 -- the channel that a ChannelState names is as it asks
 abbrev pub ChannelStatesAreDone : Type 0
-ChannelStatesAreDone = OfTreeCommands (λ before after own message. OfLasting before after (λ was now. (asked : ChannelState)
+ChannelStatesAreDone =
+    OfTreeCommands (λ before after own message. OfLasting before after (λ was now. (asked : ChannelState)
     → AsksToChange message was.channel.id asked → IsChanged asked was.channel now.channel))
 
 -- a channel that no ChannelState names is as it was
@@ -38,4 +37,5 @@ pub record IsNew (asked : ChannelState) (now : Channel) : Type 0 where
 -- a channel that comes is as the message asks
 abbrev pub ChannelsAreMadeAsAsked : Type 0
 ChannelsAreMadeAsAsked = OfTreeCommands (λ before after own message. (id : ChannelId) (now : Row) (asked : ChannelState)
-    → row_of before.tree.channels id ≡ None → row_of after.tree.channels id ≡ Some now → message ≡ State asked → IsNew asked now.channel)
+    → row_of before.tree.channels id ≡ None → row_of after.tree.channels id ≡ Some now → message ≡ State asked
+    → IsNew asked now.channel)

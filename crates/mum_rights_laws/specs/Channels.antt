@@ -1,25 +1,23 @@
 -- What a message on channels changes of channels, and who may change it.
 use Rattle.std.specs.Prelude.{◌≡◌, ◌≢◌, ◌⊎◌, ◌&&◌, ◌||◌, Some, None, if◌then◌else◌, IsTrue}
 use Rattle.std.specs.List.{Contains}
-use Rattle.mum_base.specs.declared.number.ChannelId.{ChannelId}
-use Rattle.mum_base.specs.declared.number.TheConstants.ChannelId.{ROOT}
+use Rattle.mum_base.specs.declared.number.{ChannelId.ChannelId, TheConstants.ChannelId.ROOT}
 use Rattle.mum_base.specs.declared.perm.TheConstants.Perm.{LINK_CHANNEL, MAKE_CHANNEL, MAKE_TEMP_CHANNEL, WRITE}
-use Rattle.mum_msg_state.specs.declared.channel_state.ChannelState.{ChannelState}
 use Rattle.mum_tree.specs.Rows.{is_below, row_of}
 use Rattle.mum_tree.specs.declared.channel.Row.{Row}
 use Rattle.mum_users.specs.declared.user.User.{User}
+use Rattle.mum_msg_state.specs.declared.channel_state.ChannelState.{ChannelState}
 use Rattle.mum_state.specs.State.{StateValue, open_policy, policy_of}
-use Rattle.mum_rules_tree.specs.declared.message.TreeMessage.{TreeMessage}
-use Rattle.mum_rules_tree.specs.declared.message.TreeMessage.TheVariants.{State}
-use Rattle.mum_rights_laws.specs.Rights.{may}
-use Rattle.mum_rights_laws.specs.Standing.{IsEmptied, LinkedAsBefore, OfLasting}
+use Rattle.mum_rules_tree.specs.declared.message.TreeMessage.{TreeMessage, TheVariants.State}
+use Rattle.mum_rights_laws.specs.{Rights.may, Standing.IsEmptied, Standing.LinkedAsBefore, Standing.OfLasting}
 use Rattle.mum_rights_laws.specs.TreeCommands.{AsksForPolicy, AsksToChange, AsksToRemove, OfTreeCommands}
 
 -- a channel keeps its name and what describes it, or the message names it and the actor has Write there
 abbrev pub DescribedWherePermitted : Type 0
 DescribedWherePermitted = OfTreeCommands (λ before after own message. OfLasting before after (λ was now.
     ((now.channel.name ≡ was.channel.name) × (now.channel.info ≡ was.channel.info))
-    ⊎ (((asked : ChannelState) × AsksToChange message was.channel.id asked) × IsTrue (may before own WRITE was.channel.id))))
+    ⊎ (((asked : ChannelState) × AsksToChange message was.channel.id asked)
+    × IsTrue (may before own WRITE was.channel.id))))
 
 -- a channel stays under its parent; or the message names it, and the actor has Write there and MakeChannel on the new
 -- parent
@@ -34,10 +32,11 @@ abbrev pub ChannelsStayWhatTheyAre : Type 0
 ChannelsStayWhatTheyAre = OfTreeCommands (λ before after own message. OfLasting before after (λ was now.
     (now.place ≡ was.place) × (now.channel.id ≡ was.channel.id) × (now.channel.temporary ≡ was.channel.temporary)))
 
--- the message names the one channel, and the other among those that are to be linked to it or parted from it
+-- the message names the one channel, and the other among those that are to be linked to it or unlinked from it
 abbrev pub AsksToLink : TreeMessage → ChannelId → ChannelId → Type 0
 AsksToLink message one other =
-    (asked : ChannelState) × AsksToChange message one asked × (Contains asked.links_add other.0 ⊎ Contains asked.links_remove other.0)
+    (asked : ChannelState) × AsksToChange message one asked
+    × (Contains asked.links_add other.0 ⊎ Contains asked.links_remove other.0)
 
 -- two channels are linked as before; or the message names one of them, and the other among its links, and the actor has
 -- LinkChannel on both
@@ -71,6 +70,7 @@ RemovedWherePermitted = OfTreeCommands (λ before after own message. (id : Chann
 abbrev pub MadeWherePermitted : Type 0
 MadeWherePermitted = OfTreeCommands (λ before after own message. (id : ChannelId) (now : Row)
     → row_of before.tree.channels id ≡ None → row_of after.tree.channels id ≡ Some now
-    → ((asked : ChannelState) × (message ≡ State asked) × (asked.channel_id ≡ None) × (asked.parent ≡ Some now.channel.parent.0))
+    → ((asked : ChannelState) × (message ≡ State asked) × (asked.channel_id ≡ None)
+    × (asked.parent ≡ Some now.channel.parent.0))
     × IsTrue (may before own (if now.channel.temporary then MAKE_TEMP_CHANNEL else MAKE_CHANNEL) now.channel.parent)
     × (policy_of after id ≡ Some open_policy))

@@ -2,30 +2,28 @@
 use Rattle.std.specs.Prelude.{◌≡◌, ◌≢◌, ◌&&◌, ◌||◌, bit_and, not, false, true, [], filter, map, Some, None, unwrap_or}
 use Rattle.std.specs.List.{AllZip}
 use Rattle.mum_base.specs.declared.number.ChannelId.{ChannelId}
-use Rattle.mum_msg_rule.specs.declared.acl.Acl.{Acl as AclMessage}
-use Rattle.mum_msg_rule.specs.declared.acl_group.AclGroup.{AclGroup}
-use Rattle.mum_msg_rule.specs.declared.acl_line.AclLine.{AclLine}
+use Rattle.mum_policy.specs.declared.policy.{AclEntry.AclEntry, ChannelPolicy.ChannelPolicy, Group.Group as GroupRow}
+use Rattle.mum_policy.specs.declared.policy.Whom.{Whom, TheVariants.Account, TheVariants.Group}
+use Rattle.mum_tree.specs.{Rows.is_there, State.are_linked}
 use Rattle.mum_msg_state.specs.declared.channel_state.ChannelState.{ChannelState}
-use Rattle.mum_policy.specs.declared.policy.AclEntry.{AclEntry}
-use Rattle.mum_policy.specs.declared.policy.ChannelPolicy.{ChannelPolicy}
-use Rattle.mum_policy.specs.declared.policy.Group.{Group as GroupRow}
-use Rattle.mum_policy.specs.declared.policy.Whom.{Whom}
-use Rattle.mum_policy.specs.declared.policy.Whom.TheVariants.{Account, Group}
-use Rattle.mum_tree.specs.Rows.{is_there}
-use Rattle.mum_tree.specs.State.{are_linked}
+use Rattle.mum_msg_rule.specs.declared.{acl.Acl.Acl as AclMessage, acl_group.AclGroup.AclGroup}
+use Rattle.mum_msg_rule.specs.declared.acl_line.AclLine.{AclLine}
 use Rattle.mum_state.specs.State.{policy_of}
 use Rattle.mum_rules_tree.specs.declared.message.TreeMessage.TheVariants.{Acl}
-use Rattle.mum_rights_laws.specs.TreeCommands.{AsksToChange, OfTreeCommands}
-use Rattle.mum_rights_laws.specs.Listed.{is_listed}
+use Rattle.mum_rights_laws.specs.{TreeCommands.AsksToChange, TreeCommands.OfTreeCommands, Listed.is_listed}
 
 -- ---- links
 
 -- The channel that a ChannelState names is linked to another exactly where it was or the message adds it, and where the
 -- message does not remove it, as long as both are there.
 abbrev pub LinksAreDone : Type 0
-LinksAreDone = OfTreeCommands (λ before after own message. (id other : ChannelId) (asked : ChannelState) → AsksToChange message id asked → other.0 ≢ id.0
+LinksAreDone =
+    OfTreeCommands
+    (λ before after own message. (id other : ChannelId) (asked : ChannelState) → AsksToChange message id asked
+    → other.0 ≢ id.0
     → are_linked after.tree id other
-    ≡ (((are_linked before.tree id other || is_listed asked.links_add other) && not (is_listed asked.links_remove other))
+    ≡ (((are_linked before.tree id other || is_listed asked.links_add other)
+    && not (is_listed asked.links_remove other))
     && is_there after.tree.channels id && is_there after.tree.channels other))
 
 -- ---- policies
@@ -57,5 +55,9 @@ pub record IsPolicyAsked (asked : AclMessage) (policy : ChannelPolicy) : Type 0 
 
 -- the channel that an ACL message names has the policy of the message, as long as it is there
 abbrev pub PoliciesAreDone : Type 0
-PoliciesAreDone = OfTreeCommands (λ before after own message. (id : ChannelId) (asked : AclMessage) → message ≡ Acl asked → asked.channel_id ≡ Some id.0
-    → is_there after.tree.channels id ≡ true → (policy : ChannelPolicy) × (policy_of after id ≡ Some policy) × IsPolicyAsked asked policy)
+PoliciesAreDone =
+    OfTreeCommands
+    (λ before after own message. (id : ChannelId) (asked : AclMessage) → message ≡ Acl asked
+    → asked.channel_id ≡ Some id.0
+    → is_there after.tree.channels id ≡ true
+    → (policy : ChannelPolicy) × (policy_of after id ≡ Some policy) × IsPolicyAsked asked policy)

@@ -1,20 +1,15 @@
 -- Who goes, and that nobody comes, by a message of a session on users.
 use Rattle.std.specs.Prelude.{◌≡◌, ◌⊎◌, ℕ, ◌||◌, true, List, Some, None, IsTrue}
-use Rattle.mum_base.specs.declared.number.SessionId.{SessionId}
-use Rattle.mum_base.specs.declared.number.TheConstants.ChannelId.{ROOT}
+use Rattle.mum_base.specs.declared.number.{SessionId.SessionId, TheConstants.ChannelId.ROOT}
 use Rattle.mum_base.specs.declared.perm.TheConstants.Perm.{BAN, KICK}
-use Rattle.mum_msg_state.specs.declared.user_remove.UserRemove.{UserRemove}
 use Rattle.mum_users.specs.Sessions.{session_of}
 use Rattle.mum_users.specs.declared.user.User.{User}
+use Rattle.mum_msg_state.specs.declared.user_remove.UserRemove.{UserRemove}
 use Rattle.mum_state.specs.State.{StateValue}
-use Rattle.mum_state.specs.declared.edit.Edit.TheVariants.{Kick as Kicks}
-use Rattle.mum_state.specs.declared.verdict.Verdict.TheVariants.{Accepted}
+use Rattle.mum_state.specs.declared.{edit.Edit.TheVariants.Kick as Kicks, verdict.Verdict.TheVariants.Accepted}
 use Rattle.mum_rules_user.specs.Verdict.{user_verdict}
-use Rattle.mum_rules_user.specs.declared.message.UserMessage.{UserMessage}
-use Rattle.mum_rules_user.specs.declared.message.UserMessage.TheVariants.{Kick, Leave}
-use Rattle.mum_rights_laws.specs.Rights.{may}
-use Rattle.mum_rights_laws.specs.Speech.{SparesSuperUser}
-use Rattle.mum_rights_laws.specs.UserCommands.{OfUserCommands}
+use Rattle.mum_rules_user.specs.declared.message.UserMessage.{UserMessage, TheVariants.Kick, TheVariants.Leave}
+use Rattle.mum_rights_laws.specs.{Rights.may, Speech.SparesSuperUser, UserCommands.OfUserCommands}
 
 -- the message names the session, and the actor has Kick or Ban on the root
 abbrev pub IsKicked : StateValue → User → UserMessage → User → Type 0

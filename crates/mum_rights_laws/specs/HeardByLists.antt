@@ -1,23 +1,14 @@
 -- Who hears a packet, in words of links, voice targets and the entries of access control lists.
 use Rattle.std.specs.Prelude.{◌≡◌, ◌≢◌, ◌⊎◌, ℕ, true, Some, IsTrue}
 use Rattle.std.specs.List.{Contains}
-use Rattle.mum_base.specs.declared.number.ChannelId.{ChannelId}
-use Rattle.mum_base.specs.declared.number.SessionId.{SessionId}
-use Rattle.mum_base.specs.declared.perm.Perm.{Perm}
+use Rattle.mum_base.specs.declared.{number.ChannelId.ChannelId, number.SessionId.SessionId, perm.Perm.Perm}
 use Rattle.mum_base.specs.declared.perm.TheConstants.Perm.{LISTEN, SPEAK, WHISPER}
-use Rattle.mum_tree.specs.Rows.{path}
-use Rattle.mum_tree.specs.State.{TreeState, below}
-use Rattle.mum_tree.specs.Walks.{linked}
-use Rattle.mum_users.specs.declared.target.Target.{Target}
-use Rattle.mum_users.specs.declared.target.TargetItem.{TargetItem}
-use Rattle.mum_users.specs.declared.user.User.{User}
-use Rattle.mum_users.specs.Sessions.{session_of}
-use Rattle.mum_users.specs.Targets.{target_of}
-use Rattle.mum_state.specs.Proper.{IsProper}
-use Rattle.mum_state.specs.State.{StateValue, policy_of}
+use Rattle.mum_tree.specs.{Rows.path, State.TreeState, State.below, Walks.linked}
+use Rattle.mum_users.specs.declared.{target.Target.Target, target.TargetItem.TargetItem, user.User.User}
+use Rattle.mum_users.specs.{Sessions.session_of, Targets.target_of}
+use Rattle.mum_state.specs.{Proper.IsProper, State.StateValue, State.policy_of}
 use Rattle.mum_route.specs.declared.routes.TheConstants.{LOOPBACK, TALK}
-use Rattle.mum_route.specs.Hearing.{is_in_group}
-use Rattle.mum_route.specs.Route.{route}
+use Rattle.mum_route.specs.{Hearing.is_in_group, Route.route}
 use Rattle.mum_rights_laws.specs.ByLists.{HasByLists, IsGranted, seen}
 
 -- the lists give the session the permission in the channel
@@ -36,7 +27,8 @@ IsAt state user channel =
 -- lists give the speaker Speak
 abbrev pub TalkIsHeardByLists : Type 0
 TalkIsHeardByLists =
-    (state : StateValue) (speaker hearer : SessionId) (context : ℕ) → IsProper state → Contains (route state speaker TALK) (hearer, context)
+    (state : StateValue) (speaker hearer : SessionId) (context : ℕ) → IsProper state
+    → Contains (route state speaker TALK) (hearer, context)
     → (own : User) × (user : User) × (channel : ChannelId)
     × (session_of state.roster speaker ≡ Some own) × (session_of state.roster hearer ≡ Some user)
     × Contains (linked state.tree own.channel) channel × IsGrantedIn state own SPEAK channel × IsAt state user channel
@@ -45,17 +37,21 @@ TalkIsHeardByLists =
 abbrev pub IsAimedAt : TreeState → TargetItem → ChannelId → Type 0
 IsAimedAt tree item channel =
     (top : ChannelId) × (item.channel ≡ Some top)
-    × ((channel ≡ top) ⊎ (((item.links ≡ true) × Contains (linked tree top) channel) ⊎ ((item.children ≡ true) × Contains (below tree top) channel)))
+    × ((channel ≡ top)
+    ⊎ (((item.links ≡ true) × Contains (linked tree top) channel)
+    ⊎ ((item.children ≡ true) × Contains (below tree top) channel)))
 
 -- whoever hears a session whisper is named by an item of the voice target, or is in the item's group in a channel at which
 -- the item is aimed, and in which it is or to which it listens; and there the lists give the speaker Whisper
 abbrev pub WhispersAreHeardByLists : Type 0
 WhispersAreHeardByLists =
-    (state : StateValue) (speaker hearer : SessionId) (target context : ℕ) → IsProper state → target ≢ TALK → target ≢ LOOPBACK
+    (state : StateValue) (speaker hearer : SessionId) (target context : ℕ) → IsProper state → target ≢ TALK
+    → target ≢ LOOPBACK
     → Contains (route state speaker target) (hearer, context)
     → (own : User) × (user : User) × (set : Target) × (item : TargetItem) × (channel : ChannelId)
     × (session_of state.roster speaker ≡ Some own) × (session_of state.roster hearer ≡ Some user)
     × (target_of state.roster speaker target ≡ Some set) × Contains set.items item
     × IsGrantedIn state own WHISPER channel
     × ((Contains item.sessions hearer × (user.channel ≡ channel))
-    ⊎ (IsAimedAt state.tree item channel × IsTrue (is_in_group state item.group channel user) × IsAt state user channel))
+    ⊎ (IsAimedAt state.tree item channel × IsTrue (is_in_group state item.group channel user)
+    × IsAt state user channel))

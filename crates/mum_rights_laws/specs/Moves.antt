@@ -4,14 +4,14 @@ use Rattle.mum_base.specs.declared.number.ChannelId.{ChannelId}
 use Rattle.mum_base.specs.declared.perm.TheConstants.Perm.{ENTER, MOVE}
 use Rattle.mum_users.specs.declared.user.User.{User}
 use Rattle.mum_state.specs.State.{StateValue}
-use Rattle.mum_rights_laws.specs.Rights.{may, may_with}
-use Rattle.mum_rights_laws.specs.Standing.{OfStaying}
+use Rattle.mum_rights_laws.specs.{Rights.may, Rights.may_with, Standing.OfStaying}
 use Rattle.mum_rights_laws.specs.UserCommands.{IsAbout, OfUserCommands}
 
 -- the session enters by itself: it has Enter or Move there
 abbrev pub Enters : StateValue → User → List (List ℕ) → User → ChannelId → Type 0
 Enters before own tokens user there =
-    (user.session ≡ own.session) × IsTrue (may_with before own tokens ENTER there || may_with before own tokens MOVE there)
+    (user.session ≡ own.session)
+    × IsTrue (may_with before own tokens ENTER there || may_with before own tokens MOVE there)
 
 -- another is moved: the actor has Move where that is, and Move there, or the other may enter there by its own tokens
 abbrev pub IsMoved : StateValue → User → List (List ℕ) → User → ChannelId → Type 0
@@ -23,4 +23,5 @@ IsMoved before own tokens user there =
 abbrev pub MovesArePermitted : Type 0
 MovesArePermitted = OfUserCommands (λ before after own tokens message. OfStaying before after (λ was now.
     (now.channel ≡ was.channel)
-    ⊎ (IsAbout own message was × (Enters before own tokens was now.channel ⊎ IsMoved before own tokens was now.channel))))
+    ⊎ (IsAbout own message was
+    × (Enters before own tokens was now.channel ⊎ IsMoved before own tokens was now.channel))))

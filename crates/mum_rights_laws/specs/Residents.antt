@@ -1,17 +1,15 @@
 -- What a message on channels changes of sessions.
 use Rattle.std.specs.Prelude.{◌≡◌, ◌≢◌, ◌⊎◌, ◌↔◌, not, false, None, IsTrue}
-use Rattle.mum_base.specs.declared.number.ChannelId.{ChannelId}
-use Rattle.mum_base.specs.declared.number.SessionId.{SessionId}
+use Rattle.mum_base.specs.declared.number.{ChannelId.ChannelId, SessionId.SessionId}
 use Rattle.mum_base.specs.declared.perm.TheConstants.Perm.{SPEAK, WRITE}
-use Rattle.mum_tree.specs.Refusals.{parent_of}
-use Rattle.mum_tree.specs.Rows.{is_below, is_temporary, is_there}
+use Rattle.mum_tree.specs.{Refusals.parent_of, Rows.is_below, Rows.is_temporary, Rows.is_there}
 use Rattle.mum_users.specs.Sessions.{session_of}
 use Rattle.mum_users.specs.declared.user.User.{User}
 use Rattle.mum_state.specs.State.{StateValue}
 use Rattle.mum_rules_tree.specs.declared.message.TreeMessage.{TreeMessage}
 use Rattle.mum_rights_laws.specs.Rights.{may}
-use Rattle.mum_rights_laws.specs.Standing.{AimsAsBefore, IsSetAsBefore, ListensAsBefore, OfStaying}
 use Rattle.mum_rights_laws.specs.TreeCommands.{AsksForPolicy, AsksToRemove, OfTreeCommands}
+use Rattle.mum_rights_laws.specs.Standing.{AimsAsBefore, IsSetAsBefore, ListensAsBefore, OfStaying}
 
 -- the actor removes a channel, on which it has Write, and which is the session's or above it: the session is then in the
 -- parent of the one that is removed
@@ -24,12 +22,14 @@ IsMovedUp before after own message user there =
 -- the session is the actor's, and is in a temporary channel that was not there
 abbrev pub EntersWhatItMade : StateValue → StateValue → User → User → ChannelId → Type 0
 EntersWhatItMade before after own user there =
-    (user.session ≡ own.session) × (is_there before.tree.channels there ≡ false) × IsTrue (is_temporary after.tree.channels there)
+    (user.session ≡ own.session) × (is_there before.tree.channels there ≡ false)
+    × IsTrue (is_temporary after.tree.channels there)
 
 -- of no session anything changes but its channel, which is there, and whether it is suppressed
 abbrev pub ResidentsKeepTheirOwn : Type 0
 ResidentsKeepTheirOwn = OfTreeCommands (λ before after own message. OfStaying before after (λ was now.
-    (now ≡ record was { channel = now.channel; suppress = now.suppress }) × IsTrue (is_there after.tree.channels now.channel)
+    (now ≡ record was { channel = now.channel; suppress = now.suppress })
+    × IsTrue (is_there after.tree.channels now.channel)
     × ListensAsBefore before after was.session × AimsAsBefore before after was.session))
 
 -- a session stays in its channel, or is moved out of one that is removed, or enters one that it made

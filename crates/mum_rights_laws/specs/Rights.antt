@@ -1,12 +1,10 @@
 -- What a session may do, by the walk over the access control lists on the way to a channel.
 use Rattle.std.specs.Prelude.{ℕ, ◌&&◌, Bool, List}
-use Rattle.mum_base.specs.declared.number.ChannelId.{ChannelId}
-use Rattle.mum_base.specs.declared.perm.Perm.{Perm}
+use Rattle.mum_base.specs.declared.{number.ChannelId.ChannelId, perm.Perm.Perm}
 use Rattle.mum_policy.specs.Walk.{holds}
 use Rattle.mum_tree.specs.Rows.{is_there}
 use Rattle.mum_users.specs.declared.user.User.{User}
-use Rattle.mum_state.specs.Permissions.{actor_with, granted_to}
-use Rattle.mum_state.specs.State.{StateValue}
+use Rattle.mum_state.specs.{Permissions.actor_with, Permissions.granted_to, State.StateValue}
 
 -- the session has the permission in the channel, which is there, where it has these access tokens
 abbrev pub may_with : StateValue → User → List (List ℕ) → Perm → ChannelId → Bool

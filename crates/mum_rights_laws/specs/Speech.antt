@@ -2,13 +2,11 @@
 use Rattle.std.specs.Prelude.{◌≡◌, ◌≢◌, ◌⊎◌, ℕ, not, false, List, Option, Some, IsTrue}
 use Rattle.mum_base.specs.declared.number.TheConstants.AccountId.{SUPER_USER}
 use Rattle.mum_base.specs.declared.perm.TheConstants.Perm.{MUTE_DEAFEN, SPEAK}
-use Rattle.mum_msg_state.specs.declared.authenticate.Authenticate.{Authenticate}
 use Rattle.mum_users.specs.declared.user.User.{User}
+use Rattle.mum_msg_state.specs.declared.authenticate.Authenticate.{Authenticate}
 use Rattle.mum_state.specs.State.{StateValue}
-use Rattle.mum_rules_user.specs.declared.message.UserMessage.{UserMessage}
-use Rattle.mum_rules_user.specs.declared.message.UserMessage.TheVariants.{Join}
-use Rattle.mum_rights_laws.specs.Rights.{may, may_with}
-use Rattle.mum_rights_laws.specs.Standing.{OfStaying}
+use Rattle.mum_rules_user.specs.declared.message.UserMessage.{UserMessage, TheVariants.Join}
+use Rattle.mum_rights_laws.specs.{Rights.may, Rights.may_with, Standing.OfStaying}
 use Rattle.mum_rights_laws.specs.UserCommands.{IsAbout, OfUserCommands}
 
 -- nobody but SuperUser itself does it to SuperUser
@@ -37,4 +35,5 @@ abbrev pub SuppressionIsRuledWherePermitted : Type 0
 SuppressionIsRuledWherePermitted = OfUserCommands (λ before after own tokens message. OfStaying before after (λ was now.
     (now.suppress ≡ was.suppress)
     ⊎ (((now.suppress ≡ false) × MayRuleSpeech before own tokens message was)
-    ⊎ ((now.suppress ≡ not (may after now SPEAK now.channel)) × ((now.channel ≢ was.channel) ⊎ LogsInAgain own message was)))))
+    ⊎ ((now.suppress ≡ not (may after now SPEAK now.channel))
+    × ((now.channel ≢ was.channel) ⊎ LogsInAgain own message was)))))

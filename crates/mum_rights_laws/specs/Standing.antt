@@ -1,16 +1,11 @@
 -- What stays as it is by an edit, and of whom and what a law of edits speaks.
 use Rattle.std.specs.Prelude.{◌≡◌, ℕ, ◌&&◌, true, false, Some}
-use Rattle.mum_base.specs.declared.number.ChannelId.{ChannelId}
-use Rattle.mum_base.specs.declared.number.SessionId.{SessionId}
-use Rattle.mum_tree.specs.Rows.{is_there, row_of}
-use Rattle.mum_tree.specs.State.{are_linked}
+use Rattle.mum_base.specs.declared.number.{ChannelId.ChannelId, SessionId.SessionId}
+use Rattle.mum_tree.specs.{Rows.is_there, Rows.row_of, State.are_linked}
 use Rattle.mum_tree.specs.declared.channel.Row.{Row}
-use Rattle.mum_users.specs.Listeners.{listens}
-use Rattle.mum_users.specs.Sessions.{session_of}
-use Rattle.mum_users.specs.Targets.{target_of}
+use Rattle.mum_users.specs.{Listeners.listens, Sessions.session_of, Targets.target_of}
 use Rattle.mum_users.specs.declared.user.User.{User}
-use Rattle.mum_state.specs.Emptied.{has_member}
-use Rattle.mum_state.specs.State.{StateValue}
+use Rattle.mum_state.specs.{Emptied.has_member, State.StateValue}
 
 -- this holds of each session that is there before and after, of how it was and how it is
 abbrev pub OfStaying : StateValue → StateValue → (User → User → Type 0) → Type 0
@@ -28,7 +23,8 @@ OfLasting before after Holds =
 abbrev pub ListensAsBefore : StateValue → StateValue → SessionId → Type 0
 ListensAsBefore before after session =
     (channel : ChannelId)
-    → listens after.roster session channel ≡ (listens before.roster session channel && is_there after.tree.channels channel)
+    → listens after.roster session channel
+    ≡ (listens before.roster session channel && is_there after.tree.channels channel)
 
 -- it has the voice targets that it had
 abbrev pub AimsAsBefore : StateValue → StateValue → SessionId → Type 0

@@ -1,12 +1,9 @@
 -- Voice targets are those of the message that sets them.
 use Rattle.std.specs.Prelude.{◌≡◌, false, List, [], ◌∷◌, map, Option, Some, None, unwrap_or}
-use Rattle.std.specs.List.{AllZip}
-use Rattle.std.specs.Option.{option_map}
-use Rattle.mum_msg_rule.specs.declared.target_block.TargetBlock.{TargetBlock}
-use Rattle.mum_msg_rule.specs.declared.voice_target.VoiceTarget.{VoiceTarget}
-use Rattle.mum_users.specs.declared.target.Target.{Target as VoiceTargets}
-use Rattle.mum_users.specs.declared.target.TargetItem.{TargetItem}
+use Rattle.std.specs.{List.AllZip, Option.option_map}
+use Rattle.mum_users.specs.declared.target.{Target.Target as VoiceTargets, TargetItem.TargetItem}
 use Rattle.mum_users.specs.Targets.{target_of}
+use Rattle.mum_msg_rule.specs.declared.{target_block.TargetBlock.TargetBlock, voice_target.VoiceTarget.VoiceTarget}
 use Rattle.mum_rules_user.specs.declared.message.UserMessage.TheVariants.{Target}
 use Rattle.mum_rights_laws.specs.UserCommands.{OfUserCommands}
 

@@ -1,17 +1,13 @@
 -- What is said of each accepted message on channels: by whom it is, and of which channel.
 use Rattle.std.specs.Prelude.{◌≡◌, Some}
-use Rattle.mum_base.specs.declared.number.ChannelId.{ChannelId}
-use Rattle.mum_base.specs.declared.number.SessionId.{SessionId}
-use Rattle.mum_msg_rule.specs.declared.acl.Acl.{Acl as AclMessage}
-use Rattle.mum_msg_state.specs.declared.channel_remove.ChannelRemove.{ChannelRemove}
-use Rattle.mum_msg_state.specs.declared.channel_state.ChannelState.{ChannelState}
+use Rattle.mum_base.specs.declared.number.{ChannelId.ChannelId, SessionId.SessionId}
 use Rattle.mum_users.specs.Sessions.{session_of}
 use Rattle.mum_users.specs.declared.user.User.{User}
-use Rattle.mum_state.specs.Applied.{applied}
-use Rattle.mum_state.specs.Proper.{IsProper}
-use Rattle.mum_state.specs.State.{StateValue}
-use Rattle.mum_state.specs.declared.edit.Edit.{Edit}
-use Rattle.mum_state.specs.declared.verdict.Verdict.TheVariants.{Accepted}
+use Rattle.mum_msg_state.specs.declared.channel_remove.ChannelRemove.{ChannelRemove}
+use Rattle.mum_msg_state.specs.declared.channel_state.ChannelState.{ChannelState}
+use Rattle.mum_msg_rule.specs.declared.acl.Acl.{Acl as AclMessage}
+use Rattle.mum_state.specs.{Applied.applied, Proper.IsProper, State.StateValue}
+use Rattle.mum_state.specs.declared.{edit.Edit.Edit, verdict.Verdict.TheVariants.Accepted}
 use Rattle.mum_rules_tree.specs.Verdict.{tree_verdict}
 use Rattle.mum_rules_tree.specs.declared.message.TreeMessage.{TreeMessage}
 use Rattle.mum_rules_tree.specs.declared.message.TreeMessage.TheVariants.{Acl, Remove, State}

@@ -1,17 +1,13 @@
 -- What a message on users asks for is what changes, and nothing else does.
 use Rattle.std.specs.Prelude.{◌≡◌, ◌⊎◌, ℕ, ◌&&◌, ◌||◌, not, nat_lt, Bool, true, false, length, filter, take, Option, Some, None, unwrap_or}
 use Rattle.mum_base.specs.declared.number.ChannelId.{ChannelId}
-use Rattle.mum_msg_rule.specs.declared.voice_target.VoiceTarget.{VoiceTarget}
-use Rattle.mum_msg_state.specs.declared.authenticate.Authenticate.{Authenticate}
-use Rattle.mum_msg_state.specs.declared.user_state.UserState.{UserState}
 use Rattle.mum_tree.specs.Rows.{is_there}
-use Rattle.mum_users.specs.Listeners.{listens}
-use Rattle.mum_users.specs.Targets.{target_of}
+use Rattle.mum_users.specs.{Listeners.listens, Targets.target_of}
 use Rattle.mum_users.specs.declared.user.User.{User}
+use Rattle.mum_msg_state.specs.declared.{authenticate.Authenticate.Authenticate, user_state.UserState.UserState}
+use Rattle.mum_msg_rule.specs.declared.voice_target.VoiceTarget.{VoiceTarget}
 use Rattle.mum_rules_user.specs.declared.message.UserMessage.TheVariants.{Join, Target, User as Changes}
-use Rattle.mum_rights_laws.specs.Speech.{LogsInAgain}
-use Rattle.mum_rights_laws.specs.Listed.{is_listed}
-use Rattle.mum_rights_laws.specs.Standing.{OfStaying}
+use Rattle.mum_rights_laws.specs.{Speech.LogsInAgain, Listed.is_listed, Standing.OfStaying}
 use Rattle.mum_rights_laws.specs.UserCommands.{IsAbout, OfUserCommands}
 
 -- ---- flags
@@ -48,7 +44,8 @@ pub record IsAsAsked (asked : UserState) (was now : User) : Type 0 where
 -- whom a UserState is about is as it asks, and listens to what it did and is to listen to, but for what it is to leave and
 -- what is gone
 abbrev pub UserStatesAreDone : Type 0
-UserStatesAreDone = OfUserCommands (λ before after own tokens message. OfStaying before after (λ was now. (asked : UserState)
+UserStatesAreDone =
+    OfUserCommands (λ before after own tokens message. OfStaying before after (λ was now. (asked : UserState)
     → message ≡ Changes asked → unwrap_or asked.session own.session.0 ≡ was.session.0
     → IsAsAsked asked was now
     × ((channel : ChannelId) → listens after.roster was.session channel
@@ -65,12 +62,20 @@ TheUnnamedStand = OfUserCommands (λ before after own tokens message. OfStaying 
 -- whoever logs in again has the tokens that it brings, the first 64 without those of more than 128 bytes; nothing else of it
 -- changes but whether it is suppressed
 abbrev pub LoginsRenewTokens : Type 0
-LoginsRenewTokens = OfUserCommands (λ before after own tokens message. OfStaying before after (λ was now. (login : Authenticate) (version : Option ℕ)
+LoginsRenewTokens =
+    OfUserCommands
+    (λ before after own tokens message. OfStaying before after (λ was now. (login : Authenticate) (version : Option ℕ)
     → message ≡ Join login version → was.session ≡ own.session
-    → now ≡ record was { tokens = filter (λ token. not (nat_lt 128 (length token))) (take 64 login.tokens); suppress = now.suppress }))
+    → now ≡ record was {
+      tokens = filter (λ token. not (nat_lt 128 (length token)))
+          (take 64 login.tokens);
+      suppress = now.suppress;
+    }))
 
 -- the voice targets of the actor stay, but for the one whose number a VoiceTarget has
 abbrev pub OtherTargetsStand : Type 0
-OtherTargetsStand = OfUserCommands (λ before after own tokens message. OfStaying before after (λ was now. was.session ≡ own.session → (id : ℕ)
+OtherTargetsStand =
+    OfUserCommands
+    (λ before after own tokens message. OfStaying before after (λ was now. was.session ≡ own.session → (id : ℕ)
     → (target_of after.roster was.session id ≡ target_of before.roster was.session id)
     ⊎ ((asked : VoiceTarget) × (message ≡ Target asked) × (unwrap_or asked.id 0 ≡ id))))

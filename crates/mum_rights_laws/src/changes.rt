@@ -40,7 +40,7 @@ pub fn residents_are_heard()
     ensures { ResidentsAreHeard }
 {}
 
-/// Nothing else of a session changes, nobody comes and nobody goes; settings, accounts and limits stand.
+/// Nothing else of a session changes, nobody comes and nobody goes; settings, accounts and limits stay.
 pub fn the_others_stand()
     ensures own { ResidentsKeepTheirOwn }
     ensures who { NobodyComesOrGoes }

@@ -43,7 +43,7 @@ pub fn goes_where_permitted()
     ensures comes { NobodyComes }
 {}
 
-/// Channels, their policies and their links stand, but for temporary channels that are emptied; so do settings, accounts and
+/// Channels, their policies and their links stay, but for temporary channels that are emptied; so do settings, accounts and
 /// limits.
 pub fn the_rest_stands()
     ensures channels { ChannelsStand }

@@ -1,32 +1,6 @@
 -- The aims of a packet reach those whom the definition of a route names.
-use Rattle.std.proofs.Common.{◌≡◌, ◌∙◌, ℕ, zero, suc, ◌+◌, ◌<◌, ◌&&◌, ◌||◌, Bool, true, false, cond, eqb, List, [], ◌∷◌, length, get_or, take, Option, Some, None, refl, sym, ap}
-use Rattle.std.specs.Prelude.{IsTrue}
-use Rattle.std.specs.List.{filter, list_any}
-use Rattle.std.specs.Option.{option_map_or}
-use Rattle.std.proofs.lemmas.Bool.{and_from, eq-eqb, or_left}
-use Rattle.std.proofs.lemmas.List.Folds.{list_any_more}
-use Rattle.mum_base.specs.Channels.{is_among}
-use Rattle.mum_base.specs.declared.number.ChannelId.{ChannelId}
-use Rattle.mum_base.specs.declared.perm.TheConstants.Perm.{LISTEN, SPEAK, WHISPER}
-use Rattle.mum_tree.specs.Rows.{is_there}
-use Rattle.mum_tree.specs.State.{Pair, TreeState}
-use Rattle.mum_tree.specs.Walks.{is_reached, linked}
-use Rattle.mum_tree.proofs.Closure.{same_number}
-use Rattle.mum_users.specs.declared.listening.ListenerPair.{ListenerPair}
-use Rattle.mum_users.specs.declared.target.TargetItem.{TargetItem}
-use Rattle.mum_users.specs.declared.user.User.{User}
-use Rattle.mum_users.specs.Listeners.{pairs_of}
-use Rattle.mum_state.specs.State.{StateValue}
-use Rattle.mum_route.specs.declared.aim.Ground.{Ground}
-use Rattle.mum_route.specs.declared.context.Context.{Context}
-use Rattle.mum_route.specs.declared.context.Context.TheVariants.{Talk, ChannelWhisper}
-use Rattle.mum_route.specs.Aims.{Aimed, covered, heard_by, item_aim, reached_by, talk_aim}
-use Rattle.mum_route.specs.Context.{first_of}
-use Rattle.mum_route.specs.Cover.{cover, spread, talk}
-use Rattle.mum_route.specs.Hearing.{can_hear, is_in_group, may}
-use Rattle.mum_route.specs.Route.{by_items, by_talk, is_covered_by, is_named_by, is_within, listens_to, listens_within}
-use Rattle.mum_route.proofs.Among.{among-filter, among-linked, among-spread}
-use Rattle.mum_route.proofs.Precedence.{pick, pick_either}
+use Rattle.mum_route.proofs.Common.{◌≡◌, ◌∙◌, ℕ, zero, suc, ◌+◌, ◌<◌, ◌&&◌, ◌||◌, Bool, true, false, cond, eqb, List, [], ◌∷◌, length, get_or, take, Option, Some, None, refl, sym, ap, IsTrue, filter, list_any, option_map_or, and_from, eq-eqb, or_left, list_any_more, is_among, ChannelId, LISTEN, SPEAK, WHISPER, is_there, Pair, TreeState, is_reached, linked, same_number, ListenerPair, TargetItem, User, pairs_of, StateValue, Ground, Context, Talk, ChannelWhisper, Aimed, covered, heard_by, item_aim, reached_by, talk_aim, first_of, cover, spread, talk, can_hear, is_in_group, may, by_items, by_talk, is_covered_by, is_named_by, is_within, listens_to, listens_within}
+use Rattle.mum_route.proofs.{Among.among-filter, Among.among-linked, Among.among-spread, Precedence.pick, Precedence.pick_either}
 
 -- ---- talk
 

@@ -1,23 +1,5 @@
 -- Which channels are among those of a list.
-use Rattle.std.proofs.Common.{◌≡◌, ◌↔◌, Bool, true, false, cond, ◌&&◌, ◌||◌, eqb, List, [], ◌∷◌, length, map, reverse, Option, Some, None, refl, sym, ap, subst, ◌∙◌}
-use Rattle.std.specs.Prelude.{IsTrue, ◌==◌}
-use Rattle.std.specs.List.{Contains, filter, list_any}
-use Rattle.std.specs.Option.{is_some, option_map_or}
-use Rattle.std.proofs.lemmas.List.Folds.{list_any-append}
-use Rattle.std.proofs.lemmas.Bool.{eq-eqb}
-use Rattle.mum_base.specs.Channels.{is_among}
-use Rattle.mum_base.specs.declared.number.ChannelId.{ChannelId}
-use Rattle.mum_tree.specs.Rows.{is_below, is_there, row_of}
-use Rattle.mum_tree.specs.State.{TreeState, below}
-use Rattle.mum_tree.specs.declared.channel.Row.{Row}
-use Rattle.mum_tree.specs.Walks.{is_reached, linked}
-use Rattle.mum_state.specs.State.{StateValue}
-use Rattle.mum_route.specs.declared.aim.Ground.{Ground}
-use Rattle.mum_route.specs.Aims.{Aimed, covered}
-use Rattle.mum_route.specs.Cover.{spread}
-use Rattle.mum_route.specs.Hearing.{may}
-use Rattle.mum_tree.proofs.Closure.{any_from, any_has, same_number}
-use Rattle.mum_tree.proofs.Upward.{upward_missing}
+use Rattle.mum_route.proofs.Common.{◌≡◌, ◌↔◌, Bool, true, false, cond, ◌&&◌, ◌||◌, eqb, List, [], ◌∷◌, length, map, reverse, Option, Some, None, refl, sym, ap, subst, ◌∙◌, IsTrue, ◌==◌, Contains, filter, list_any, is_some, option_map_or, list_any-append, eq-eqb, is_among, ChannelId, is_below, is_there, row_of, TreeState, below, Row, is_reached, linked, StateValue, Ground, Aimed, covered, spread, may, any_from, any_has, same_number, upward_missing}
 
 -- marked is whether it is contained
 pub marked_among : (ids : List ChannelId) (id : ChannelId) (marked : Bool) → IsTrue marked ↔ Contains ids id → marked ≡ is_among ids id

@@ -1,11 +1,7 @@
 -- What is kept for each session, by its place among the sessions.
-use Rattle.std.proofs.Common.{◌≡◌, ◌≢◌, ℕ, ◌+◌, ◌<◌, ◌≤◌, List, length, get_or, set, Option, None, sym, ap, ◌∙◌, arith, ⊎_elim}
-use Rattle.std.proofs.lemmas.Bool.{cases_eq}
-use Rattle.std.proofs.lemmas.List.{get_or-set_other, get_or-set_same, get_or_default}
-use Rattle.mum_users.specs.declared.user.User.{User}
-use Rattle.mum_route.specs.declared.context.Context.{Context}
+use Rattle.mum_route.proofs.Common.{◌≡◌, ◌≢◌, ℕ, ◌+◌, ◌<◌, ◌≤◌, List, length, get_or, set, Option, None, sym, ap, ◌∙◌, arith, ⊎_elim, cases_eq, get_or-set_other, get_or-set_same, get_or_default, User, Context}
 
--- the first so many are what comes of the old and their sessions, the others are old
+-- the first n are what comes of the old and their sessions, the others are old
 pub record AreFilled (f : Option Context → User → Option Context) (users : List User) (old now : List (Option Context)) (i : ℕ) : Type 0 where
   pub done : (k : ℕ) (d : User) → k < i → get_or now k None ≡ f (get_or old k None) (get_or users k d)
   pub rest : (k : ℕ) → i ≤ k → get_or now k None ≡ get_or old k None

@@ -1,12 +1,5 @@
 -- Those of the sessions that are reached, each with what its copy needs.
-use Rattle.std.proofs.Common.{◌≡◌, ◌∙◌, ℕ, zero, suc, ◌+◌, ◌<◌, ◌≤◌, Bool, true, false, cond, List, [], ◌∷◌, ◌++◌, length, get_or, take, Option, Some, None, refl, sym, ap, arith, add-one}
-use Rattle.std.specs.List.{cons_option, filter, filter_map, zip}
-use Rattle.std.specs.Option.{option_map}
-use Rattle.mum_users.specs.declared.user.User.{User}
-use Rattle.mum_route.specs.declared.context.Context.{Context}
-use Rattle.mum_route.specs.declared.hearer.Hearer.{Hearer}
-use Rattle.mum_route.specs.Aims.{AreHeard, heard_of, hearer_by}
-use Rattle.mum_route.specs.Route.{member_by}
+use Rattle.mum_route.proofs.Common.{◌≡◌, ◌∙◌, ℕ, zero, suc, ◌+◌, ◌<◌, ◌≤◌, Bool, true, false, cond, List, [], ◌∷◌, ◌++◌, length, get_or, take, Option, Some, None, refl, sym, ap, arith, add-one, cons_option, filter, filter_map, zip, option_map, User, Context, Hearer, AreHeard, heard_of, hearer_by, member_by}
 
 cons-append : (one : Option Hearer) (xs ys : List Hearer) → cons_option one (xs ++ ys) ≡ cons_option one xs ++ ys
 cons-append None xs ys = refl

@@ -1,29 +1,5 @@
 -- Those who hear, one by one.
-use Rattle.std.proofs.Common.{◌≡◌, ◌≢◌, ◌∙◌, ℕ, zero, suc, ◌+◌, ◌<◌, ◌≤◌, Bool, true, false, cond, eqb, List, [], ◌∷◌, Option, Some, None, refl, sym, ap, subst, arith, ⊎_elim}
-use Rattle.std.specs.Prelude.{find}
-use Rattle.std.specs.List.{All, AllByRecursion, AllPairs, Contains, cons_option, filter_map}
-use Rattle.std.specs.Option.{option_map, option_map_or}
-use Rattle.std.proofs.lemmas.Bool.{cases_eq, eq-eqb, eqb-true, false≢true, ne_eqb}
-use Rattle.std.proofs.lemmas.List.Elements.{All-from_recursion, All-nil}
-use Rattle.std.proofs.lemmas.List.Kept.{AllPairs-cons}
-use Rattle.std.proofs.lemmas.Option.{none-some, same_Some}
-use Rattle.mum_base.specs.declared.number.SessionId.{SessionId}
-use Rattle.mum_tree.proofs.Find.{contains_later}
-use Rattle.mum_tree.proofs.Upward.{none_contained}
-use Rattle.mum_users.specs.declared.user.User.{User}
-use Rattle.mum_users.specs.Proper.{SlotsRise}
-use Rattle.mum_users.specs.Sessions.{session_of}
-use Rattle.mum_users.specs.State.{has_number}
-use Rattle.mum_state.specs.Proper.{IsProper}
-use Rattle.mum_state.specs.State.{StateValue}
-use Rattle.mum_state.proofs.Each.{Each}
-use Rattle.mum_state.proofs.Seats.{session_alone}
-use Rattle.mum_route.specs.declared.context.Context.{Context}
-use Rattle.mum_route.specs.declared.context.Context.TheVariants.{Talk}
-use Rattle.mum_route.specs.declared.routes.TheConstants.{LOOPBACK}
-use Rattle.mum_route.specs.Aims.{heard_as}
-use Rattle.mum_route.specs.Hearing.{can_hear, is_silent}
-use Rattle.mum_route.specs.Route.{Member, context_of, heard_from, member_by, reached_of, route}
+use Rattle.mum_route.proofs.Common.{◌≡◌, ◌≢◌, ◌∙◌, ℕ, zero, suc, ◌+◌, ◌<◌, ◌≤◌, Bool, true, false, cond, eqb, List, [], ◌∷◌, Option, Some, None, refl, sym, ap, subst, arith, ⊎_elim, find, All, AllByRecursion, AllPairs, Contains, cons_option, filter_map, option_map, option_map_or, cases_eq, eq-eqb, eqb-true, false≢true, ne_eqb, All-from_recursion, All-nil, AllPairs-cons, none-some, same_Some, SessionId, contains_later, none_contained, User, SlotsRise, session_of, has_number, IsProper, StateValue, Each, session_alone, Context, Talk, LOOPBACK, heard_as, can_hear, is_silent, Member, context_of, heard_from, member_by, reached_of, route}
 use Rattle.mum_route.proofs.Gathered.{passing_members}
 
 -- ---- a session that is there is found by its number

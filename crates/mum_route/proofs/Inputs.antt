@@ -1,33 +1,5 @@
 -- A route is of what it reads alone.
-use Rattle.std.proofs.Common.{◌≡◌, ℕ, suc, ◌++◌, ◌-◌, ◌==◌, ◌&&◌, ◌||◌, Bool, true, false, cond, List, [], ◌∷◌, length, map, refl, sym, ap, ◌∙◌, Option, Some, None, if◌then◌else◌}
-use Rattle.std.specs.List.{cons_option, filter, filter_map, find, list_any}
-use Rattle.std.specs.Option.{option_map, option_map_or}
-use Rattle.mum_base.specs.Channels.{is_among}
-use Rattle.mum_base.specs.declared.number.ChannelId.{ChannelId}
-use Rattle.mum_base.specs.declared.number.SessionId.{SessionId}
-use Rattle.mum_base.specs.declared.perm.Perm.{Perm}
-use Rattle.mum_base.specs.declared.perm.TheConstants.Perm.{LISTEN, SPEAK, WHISPER}
-use Rattle.mum_policy.specs.Member.{member}
-use Rattle.mum_policy.specs.Walk.{holds, perm as granted}
-use Rattle.mum_tree.specs.declared.channel.Row.{Row}
-use Rattle.mum_tree.specs.Rows.{is_below, is_there, path}
-use Rattle.mum_tree.specs.State.{below}
-use Rattle.mum_tree.specs.Walks.{is_reached, linked}
-use Rattle.mum_users.specs.declared.target.TargetItem.{TargetItem}
-use Rattle.mum_users.specs.declared.user.User.{User}
-use Rattle.mum_users.specs.Listeners.{pairs_of}
-use Rattle.mum_users.specs.Sessions.{session_of}
-use Rattle.mum_users.specs.State.{has_number}
-use Rattle.mum_state.specs.Permissions.{actor_from, actor_at}
-use Rattle.mum_state.specs.Routed.{RouteInputs, route_inputs, without_talk, without_text}
-use Rattle.mum_state.specs.State.{StateValue, no_counts, plain_server, policy_of}
-use Rattle.mum_state.proofs.Ways.{edge, path_alike, there_alike}
-use Rattle.mum_route.specs.declared.context.Context.{Context}
-use Rattle.mum_route.specs.declared.context.Context.TheVariants.{Talk, ChannelWhisper, DirectWhisper, Listener}
-use Rattle.mum_route.specs.declared.routes.TheConstants.{LOOPBACK, TALK}
-use Rattle.mum_route.specs.Hearing.{can_hear, is_silent, may}
-use Rattle.mum_route.specs.Laws.{RouteIsOfItsInputs}
-use Rattle.mum_route.specs.Route.{Member, context_of, heard_from, is_named, items_of, member_by, reached_of, route}
+use Rattle.mum_route.proofs.Common.{◌≡◌, ℕ, suc, ◌++◌, ◌-◌, ◌==◌, ◌&&◌, ◌||◌, Bool, true, false, cond, List, [], ◌∷◌, length, map, refl, sym, ap, ◌∙◌, Option, Some, None, if◌then◌else◌, cons_option, filter, filter_map, find, list_any, option_map, option_map_or, is_among, ChannelId, SessionId, Perm, LISTEN, SPEAK, WHISPER, member, holds, granted, Row, is_below, is_there, path, below, is_reached, linked, TargetItem, User, pairs_of, session_of, has_number, actor_from, actor_at, RouteInputs, route_inputs, without_talk, without_text, StateValue, no_counts, plain_server, policy_of, edge, path_alike, there_alike, Context, Talk, ChannelWhisper, DirectWhisper, Listener, LOOPBACK, TALK, can_hear, is_silent, may, RouteIsOfItsInputs, Member, context_of, heard_from, is_named, items_of, member_by, reached_of, route}
 
 -- ---- the state that has these parts, and nothing else
 

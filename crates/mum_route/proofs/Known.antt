@@ -1,21 +1,5 @@
 -- What is known of the channels in which a speaker has a permission, by the places of the channels.
-use Rattle.std.proofs.Common.{◌≡◌, ◌≢◌, ℕ, zero, suc, ◌<◌, ◌≤◌, Bool, true, false, cond, eqb, List, [], ◌∷◌, length, get_or, set, replicate, refl, sym, ap, subst, ◌∙◌, arith, Option, Some, None, IfSome, unwrap_or, ⊎_elim}
-use Rattle.std.specs.List.{AllPairs}
-use Rattle.std.specs.Option.{option_map}
-use Rattle.std.proofs.lemmas.Bool.{cases_eq, cases_lt, eqb-true}
-use Rattle.std.proofs.lemmas.List.{get_or-set_other, get_or-set_same}
-use Rattle.std.proofs.lemmas.Option.{none-some}
-use Rattle.mum_base.specs.declared.number.ChannelId.{ChannelId}
-use Rattle.mum_base.specs.declared.number.SessionId.{SessionId}
-use Rattle.mum_base.specs.declared.perm.Perm.{Perm}
-use Rattle.mum_tree.specs.declared.channel.Row.{Row}
-use Rattle.mum_tree.specs.Rows.{row_of}
-use Rattle.mum_tree.specs.State.{TreeState}
-use Rattle.mum_tree.proofs.Start.{root_row}
-use Rattle.mum_state.specs.Proper.{IsProper}
-use Rattle.mum_state.specs.State.{StateValue}
-use Rattle.mum_route.specs.Aims.{AreKnown}
-use Rattle.mum_route.specs.Hearing.{may}
+use Rattle.mum_route.proofs.Common.{◌≡◌, ◌≢◌, ℕ, zero, suc, ◌<◌, ◌≤◌, Bool, true, false, cond, eqb, List, [], ◌∷◌, length, get_or, set, replicate, refl, sym, ap, subst, ◌∙◌, arith, Option, Some, None, IfSome, unwrap_or, ⊎_elim, AllPairs, option_map, cases_eq, cases_lt, eqb-true, get_or-set_other, get_or-set_same, none-some, ChannelId, SessionId, Perm, Row, row_of, TreeState, root_row, IsProper, StateValue, AreKnown, may}
 
 -- the row at an index is that of the channel, and has the place
 pub record IsAt (rows : List Row) (id : ChannelId) (place at : ℕ) : Type 0 where
@@ -44,7 +28,7 @@ row_at (row ∷ rows) id place found = by_first (eqb row.channel.id.0 id.0) refl
         let (at, is) = later there in
         (suc at, record { within = omega (arith, is.within); same = is.same; placed = is.placed })
 
--- the place that the tree of a state tells is that of the state
+-- the place that the tree of a state reports is that of the state
 pub placed_in : (state : StateValue) (tree : TreeState) (id : ChannelId) (told : Option ℕ) (place : ℕ)
     → tree ≡ state.tree → told ≡ option_map (λ row. row.place) (row_of tree.channels id) → told ≡ Some place
     → option_map (λ row. row.place) (row_of state.tree.channels id) ≡ Some place

@@ -1,3 +1,5 @@
+mod Common
+pub mod Public
 pub mod Among
 pub mod Known
 pub mod Present

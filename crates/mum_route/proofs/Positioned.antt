@@ -1,16 +1,7 @@
 -- A copy has its position by whether two contexts are equal.
-use Rattle.std.proofs.Common.{◌≡◌, ◌≢◌, ◌∙◌, ℕ, ◌+◌, ◌*◌, ◌^◌, Bool, true, false, List, [], ◌∷◌, ◌++◌, bytes_eq, cond, Some, refl, sym, ap, append_assoc}
-use Rattle.std.proofs.lemmas.Slice.Eq.{bytes_eq-Decides}
-use Rattle.std.proofs.lemmas.List.{append-nil}
-use Rattle.mum_base.specs.declared.number.SessionId.{SessionId}
-use Rattle.mum_voice.specs.Packet.{Parts}
-use Rattle.mum_voice.specs.Varint.{shortest_word}
-use Rattle.mum_users.specs.declared.user.User.{User}
-use Rattle.mum_route.specs.declared.hearer.Hearer.{Hearer}
-use Rattle.mum_route.specs.Hearers.{copy_for, shares}
-use Rattle.mum_route.specs.Laws.{HasPositionBy, before_position}
+use Rattle.mum_route.proofs.Common.{◌≡◌, ◌≢◌, ◌∙◌, ℕ, ◌+◌, ◌*◌, ◌^◌, Bool, true, false, List, [], ◌∷◌, ◌++◌, bytes_eq, cond, Some, refl, sym, ap, append_assoc, bytes_eq-Decides, append-nil, SessionId, Parts, shortest_word, User, Hearer, copy_for, shares, HasPositionBy, before_position}
 
--- the parts of a copy, with its last one behind the others
+-- the parts of a copy, with its last one after the others
 rejoined : (speaker : SessionId) (packet : Parts) (context : ℕ) (last : List ℕ)
     → (packet.kind * 2 ^ 5 + context) ∷ shortest_word speaker.0 ++ packet.sequence ++ packet.audio ++ last ≡ before_position speaker packet context ++ last
 rejoined speaker packet context last = simp append_assoc

@@ -1,8 +1,5 @@
 -- Which of several ways to reach a session comes first.
-use Rattle.std.proofs.Common.{◌≡◌, ◌||◌, Bool, true, false, cond, Option, Some, None, refl}
-use Rattle.mum_route.specs.declared.context.Context.{Context}
-use Rattle.mum_route.specs.declared.context.Context.TheVariants.{ChannelWhisper, DirectWhisper, Listener}
-use Rattle.mum_route.specs.Context.{first_of}
+use Rattle.mum_route.proofs.Common.{◌≡◌, ◌||◌, Bool, true, false, cond, Option, Some, None, refl, Context, ChannelWhisper, DirectWhisper, Listener, first_of}
 
 -- the first of three ways that applies
 abbrev pub pick : Context → Bool → Bool → Bool → Option Context

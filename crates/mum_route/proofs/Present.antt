@@ -1,25 +1,5 @@
 -- The sessions of a proper state are in channels that are there, and listen to such.
-use Rattle.std.proofs.Common.{◌≡◌, ℕ, zero, suc, ◌+◌, ◌<◌, ◌≤◌, Bool, true, false, cond, eqb, List, [], ◌∷◌, length, map, get_or, Option, Some, None, refl, sym, ap, subst, ◌∙◌, arith}
-use Rattle.std.specs.Prelude.{◌==◌, ◌&&◌, IsSome, IsTrue, find}
-use Rattle.std.specs.List.{All, list_all, list_any}
-use Rattle.std.specs.Option.{is_some, option_map}
-use Rattle.std.proofs.lemmas.Bool.{and_parts, eqb-true, false≢true}
-use Rattle.mum_base.specs.declared.number.ChannelId.{ChannelId}
-use Rattle.mum_policy.specs.Member.{Actor}
-use Rattle.mum_base.specs.declared.number.SessionId.{SessionId}
-use Rattle.mum_tree.specs.Rows.{is_there, row_of, IsWay}
-use Rattle.mum_tree.specs.State.{TreeState}
-use Rattle.mum_tree.specs.declared.channel.Row.{Row}
-use Rattle.mum_users.specs.declared.listening.ListenerPair.{ListenerPair}
-use Rattle.mum_users.specs.declared.user.User.{User}
-use Rattle.mum_users.specs.Listeners.{pairs_of}
-use Rattle.mum_users.specs.Proper.{SlotsRise}
-use Rattle.mum_users.specs.Sessions.{session_of}
-use Rattle.mum_users.specs.State.{RosterState, has_number, is_of_session}
-use Rattle.mum_state.specs.Proper.{IsProper}
-use Rattle.mum_state.specs.Permissions.{actor_from, granted_to, granted_where_there, perm_of}
-use Rattle.mum_state.specs.State.{PolicyRow, StateValue, policy_of}
-use Rattle.mum_state.proofs.Listed.{all_filter}
+use Rattle.mum_route.proofs.Common.{◌≡◌, ℕ, zero, suc, ◌+◌, ◌<◌, ◌≤◌, Bool, true, false, cond, eqb, List, [], ◌∷◌, length, map, get_or, Option, Some, None, refl, sym, ap, subst, ◌∙◌, arith, ◌==◌, ◌&&◌, IsSome, IsTrue, find, All, list_all, list_any, is_some, option_map, and_parts, eqb-true, false≢true, ChannelId, Actor, SessionId, is_there, row_of, IsWay, TreeState, Row, ListenerPair, User, pairs_of, SlotsRise, session_of, RosterState, has_number, is_of_session, IsProper, actor_from, granted_to, granted_where_there, perm_of, PolicyRow, StateValue, policy_of, all_filter}
 
 pub all_at : {X : Type 0} (p : X → Bool) (xs : List X) (i : ℕ) (d : X) → list_all p xs ≡ true → i < length xs → p (get_or xs i d) ≡ true
 all_at p [] i d all within = absurd (omega arith)

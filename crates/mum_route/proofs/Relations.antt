@@ -1,33 +1,6 @@
 -- What the tests of a route say of channels, items and listeners.
-use Rattle.std.proofs.Common.{◌≡◌, ◌∙◌, ℕ, zero, suc, inl, inr, ◌&&◌, Bool, true, false, cond, eqb, List, [], ◌∷◌, Option, Some, None, refl, sym, ap, subst, arith}
-use Rattle.std.specs.Prelude.{IsTrue, ◌==◌}
-use Rattle.std.specs.List.{Contains, filter, list_any}
-use Rattle.std.specs.Option.{option_map_or}
-use Rattle.std.proofs.lemmas.Bool.{and_from, and_parts, eq-eqb, eqb-true, false≢true}
-use Rattle.std.proofs.lemmas.Option.{none-some, same_Some}
-use Rattle.mum_base.specs.Channels.{is_among}
-use Rattle.mum_base.specs.declared.number.ChannelId.{ChannelId}
-use Rattle.mum_base.specs.declared.number.SessionId.{SessionId}
-use Rattle.mum_base.specs.declared.perm.TheConstants.Perm.{LISTEN, WHISPER}
-use Rattle.mum_tree.specs.Rows.{is_there}
-use Rattle.mum_tree.proofs.Closure.{any_from, any_has}
-use Rattle.mum_tree.proofs.Find.{contains_later}
-use Rattle.mum_tree.proofs.Upward.{none_contained}
-use Rattle.mum_users.specs.declared.listening.ListenerPair.{ListenerPair}
-use Rattle.mum_users.specs.declared.target.TargetItem.{TargetItem}
-use Rattle.mum_users.specs.declared.user.User.{User}
-use Rattle.mum_users.specs.Listeners.{pairs_of}
-use Rattle.mum_users.specs.State.{is_of_session}
-use Rattle.mum_state.specs.State.{StateValue}
-use Rattle.mum_route.specs.declared.context.Context.{Context}
-use Rattle.mum_route.specs.declared.context.Context.TheVariants.{Talk, ChannelWhisper, DirectWhisper, Listener}
-use Rattle.mum_route.specs.Context.{code}
-use Rattle.mum_route.specs.Cover.{cover, spread, talk}
-use Rattle.mum_route.specs.Hearing.{is_in_group, may}
-use Rattle.mum_route.specs.Laws.{IsCovered, IsItemContext, IsNamed, IsTalkContext, Listens, ListensToItems, ListensToTalk}
-use Rattle.mum_route.specs.Route.{by_items, by_talk, is_covered_by, is_named_by, is_within, listens_to, listens_within}
-use Rattle.mum_route.proofs.Among.{Contains-among, among-Contains}
-use Rattle.mum_route.proofs.Precedence.{pick}
+use Rattle.mum_route.proofs.Common.{◌≡◌, ◌∙◌, ℕ, zero, suc, inl, inr, ◌&&◌, Bool, true, false, cond, eqb, List, [], ◌∷◌, Option, Some, None, refl, sym, ap, subst, arith, IsTrue, ◌==◌, Contains, filter, list_any, option_map_or, and_from, and_parts, eq-eqb, eqb-true, false≢true, none-some, same_Some, is_among, ChannelId, SessionId, LISTEN, WHISPER, is_there, any_from, any_has, contains_later, none_contained, ListenerPair, TargetItem, User, pairs_of, is_of_session, StateValue, Context, Talk, ChannelWhisper, DirectWhisper, Listener, code, cover, spread, talk, is_in_group, may, IsCovered, IsItemContext, IsNamed, IsTalkContext, Listens, ListensToItems, ListensToTalk, by_items, by_talk, is_covered_by, is_named_by, is_within, listens_to, listens_within}
+use Rattle.mum_route.proofs.{Among.Contains-among, Among.among-Contains, Precedence.pick}
 
 -- ---- listeners
 

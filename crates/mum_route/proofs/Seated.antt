@@ -1,21 +1,5 @@
 -- Those who hear are the members of the route, each found by its number.
-use Rattle.std.proofs.Common.{◌≡◌, ◌≢◌, ◌∙◌, ℕ, zero, suc, Bool, true, false, cond, List, [], ◌∷◌, map, Option, Some, None, refl, sym, ap, subst, arith, inl, inr}
-use Rattle.std.specs.Prelude.{find}
-use Rattle.std.specs.List.{All, AllByRecursion, Contains, cons_option}
-use Rattle.std.specs.Option.{option_map}
-use Rattle.std.proofs.lemmas.Bool.{cases_eq, eq-eqb, false≢true}
-use Rattle.std.proofs.lemmas.List.Elements.{recursion_from_All}
-use Rattle.mum_base.specs.declared.number.SessionId.{SessionId}
-use Rattle.mum_tree.proofs.Upward.{none_contained}
-use Rattle.mum_users.specs.declared.user.User.{User}
-use Rattle.mum_users.specs.Sessions.{session_of}
-use Rattle.mum_users.specs.State.{has_number}
-use Rattle.mum_state.specs.State.{StateValue}
-use Rattle.mum_route.specs.declared.hearer.Hearer.{Hearer}
-use Rattle.mum_route.specs.declared.routes.TheConstants.{LOOPBACK}
-use Rattle.mum_route.specs.Hearers.{hearer_of, hearers_at, hearers_of, member_of, shares}
-use Rattle.mum_route.specs.Hearing.{is_silent}
-use Rattle.mum_route.specs.Route.{Member, route}
+use Rattle.mum_route.proofs.Common.{◌≡◌, ◌≢◌, ◌∙◌, ℕ, zero, suc, Bool, true, false, cond, List, [], ◌∷◌, map, Option, Some, None, refl, sym, ap, subst, arith, inl, inr, find, All, AllByRecursion, Contains, cons_option, option_map, cases_eq, eq-eqb, false≢true, recursion_from_All, SessionId, none_contained, User, session_of, has_number, StateValue, Hearer, LOOPBACK, hearer_of, hearers_at, hearers_of, member_of, shares, is_silent, Member, route}
 use Rattle.mum_route.proofs.Hearers.{each_hearing, found_number, route_of_loopback, route_of_none, route_of_silent}
 
 -- ---- what holds of each

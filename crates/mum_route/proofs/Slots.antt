@@ -1,11 +1,6 @@
 -- The slots of the sessions of a proper roster.
-use Rattle.std.proofs.Common.{◌≡◌, ℕ, zero, suc, ◌+◌, ◌<◌, ◌≤◌, Bool, true, false, cond, List, [], ◌∷◌, length, get_or, Option, Some, arith}
-use Rattle.std.specs.Prelude.{find}
-use Rattle.mum_base.specs.declared.number.SessionId.{SessionId}
-use Rattle.mum_users.specs.declared.user.User.{User}
-use Rattle.mum_users.specs.Proper.{IsProper, SlotsRise}
-use Rattle.mum_users.specs.Sessions.{session_of}
-use Rattle.mum_users.specs.State.{RosterState, has_number}
+use Rattle.mum_route.proofs.Common.{◌≡◌, ℕ, zero, suc, ◌+◌, ◌<◌, ◌≤◌, Bool, true, false, cond, List, [], ◌∷◌, length, get_or, Option, Some, arith, find, SessionId, User, SlotsRise, session_of, RosterState, has_number}
+use Rattle.mum_users.specs.Proper.{IsProper}
 
 low_limit : (limit low : ℕ) (users : List User) → SlotsRise limit low users → low ≤ limit
 low_limit limit low [] rise = rise

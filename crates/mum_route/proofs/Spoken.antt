@@ -1,23 +1,6 @@
 -- Who is reached, by what is known of each session, with what its copy needs.
-use Rattle.std.proofs.Common.{◌≡◌, ◌≢◌, ◌∙◌, ℕ, suc, ◌≤◌, Bool, true, false, cond, eqb, List, [], ◌∷◌, length, map, get_or, Option, Some, None, refl, sym, ap, arith}
-use Rattle.std.specs.List.{Contains, cons_option}
-use Rattle.std.specs.Option.{option_map}
-use Rattle.mum_tree.proofs.Find.{contains_later}
-use Rattle.mum_users.specs.declared.user.User.{User}
-use Rattle.mum_users.specs.Sessions.{session_of}
-use Rattle.mum_state.specs.Proper.{IsProper}
-use Rattle.mum_state.specs.State.{StateValue}
-use Rattle.mum_route.specs.declared.context.Context.{Context}
-use Rattle.mum_route.specs.declared.context.Context.TheVariants.{Talk}
-use Rattle.mum_route.specs.declared.hearer.Hearer.{Hearer}
-use Rattle.mum_route.specs.declared.routes.TheConstants.{LOOPBACK}
-use Rattle.mum_route.specs.Aims.{AreHeard, heard_as, heard_of, hearer_by, members_by}
-use Rattle.mum_route.specs.Hearers.{hearers_of, member_of}
-use Rattle.mum_route.specs.Hearing.{is_silent}
-use Rattle.mum_route.specs.Route.{Member, heard_from, member_by, reached_of}
-use Rattle.mum_route.proofs.Gathered.{heard_each}
-use Rattle.mum_route.proofs.Hearers.{found_own}
-use Rattle.mum_route.proofs.Told.{heard_is, hearer_found}
+use Rattle.mum_route.proofs.Common.{◌≡◌, ◌≢◌, ◌∙◌, ℕ, suc, ◌≤◌, Bool, true, false, cond, eqb, List, [], ◌∷◌, length, map, get_or, Option, Some, None, refl, sym, ap, arith, Contains, cons_option, option_map, contains_later, User, session_of, IsProper, StateValue, Context, Talk, Hearer, LOOPBACK, AreHeard, heard_as, heard_of, hearer_by, members_by, hearers_of, member_of, is_silent, Member, heard_from, member_by, reached_of}
+use Rattle.mum_route.proofs.{Gathered.heard_each, Hearers.found_own, Told.heard_is, Told.hearer_found}
 
 -- whom one reaches who is not silent
 pub members_reached : (state : StateValue) (own : User) (target : ℕ) (reached : List (Option Context)) → length state.roster.sessions ≤ length reached

@@ -1,15 +1,5 @@
 -- Who hears a packet, worked out on small states.
-use Rattle.std.proofs.Common.{◌≡◌, ℕ, true, List, [], ◌∷◌, ◌++◌, codes, map, Some}
-use Rattle.mum_base.specs.declared.perm.Perm.{Perm}
-use Rattle.mum_base.specs.declared.perm.TheConstants.Perm.{LISTEN, SPEAK, WHISPER}
-use Rattle.mum_policy.proofs.Scenes.{defines, denies, everybody, group, one, only_here}
-use Rattle.mum_tree.specs.Walks.{is_reached}
-use Rattle.mum_users.specs.declared.flags.FlagChange.{FlagChange}
-use Rattle.mum_users.specs.declared.target.TargetItem.{TargetItem}
-use Rattle.mum_users.proofs.Scenes.{item_channel, item_sessions, same_flags, session, unchanged, with_children, with_group, with_links}
-use Rattle.mum_state.specs.declared.edit.Edit.{Edit}
-use Rattle.mum_state.proofs.Scenes.{add_account, clear, enter, join, join_as, leave, link, listen, make, move, remove, set_policy, set_target, set_user, state}
-use Rattle.mum_route.specs.Route.{route}
+use Rattle.mum_route.proofs.Common.{◌≡◌, ℕ, true, List, [], ◌∷◌, ◌++◌, codes, map, Some, Perm, LISTEN, SPEAK, WHISPER, defines, denies, everybody, group, one, only_here, is_reached, FlagChange, TargetItem, item_channel, item_sessions, same_flags, session, unchanged, with_children, with_group, with_links, Edit, add_account, clear, enter, join, join_as, leave, link, listen, make, move, remove, set_policy, set_target, set_user, state, route}
 
 -- those who hear what a session says to a target, each with its context
 pub heard : List Edit → ℕ → ℕ → List (ℕ × ℕ)

@@ -1,23 +1,6 @@
 -- Those who are reached are the members of the route, each with what its copy needs.
-use Rattle.std.proofs.Common.{◌≡◌, ◌≢◌, ◌∙◌, ℕ, ◌≤◌, Bool, false, cond, eqb, List, [], ◌∷◌, length, map, Option, Some, None, refl, sym, ap, arith}
-use Rattle.std.specs.List.{Contains, cons_option, filter_map}
-use Rattle.std.specs.Option.{option_map}
-use Rattle.std.proofs.lemmas.Bool.{ne_eqb}
-use Rattle.mum_tree.proofs.Find.{contains_later}
-use Rattle.mum_users.specs.declared.user.User.{User}
-use Rattle.mum_users.specs.Sessions.{session_of}
-use Rattle.mum_state.specs.Proper.{IsProper}
-use Rattle.mum_state.specs.State.{StateValue}
-use Rattle.mum_route.specs.declared.context.Context.{Context}
-use Rattle.mum_route.specs.declared.context.Context.TheVariants.{Talk}
-use Rattle.mum_route.specs.declared.hearer.Hearer.{Hearer}
-use Rattle.mum_route.specs.declared.routes.TheConstants.{LOOPBACK}
-use Rattle.mum_route.specs.Aims.{AreHeard, heard_as, heard_of, hearer_by}
-use Rattle.mum_route.specs.Hearers.{hearer_of, hearers_of, member_of, shares}
-use Rattle.mum_route.specs.Hearing.{can_hear, is_silent}
-use Rattle.mum_route.specs.Route.{Member, context_of, heard_from, member_by, reached_of}
-use Rattle.mum_route.proofs.Gathered.{heard_each, passing_members}
-use Rattle.mum_route.proofs.Hearers.{found_own, members}
+use Rattle.mum_route.proofs.Common.{◌≡◌, ◌≢◌, ◌∙◌, ℕ, ◌≤◌, Bool, false, cond, eqb, List, [], ◌∷◌, length, map, Option, Some, None, refl, sym, ap, arith, Contains, cons_option, filter_map, option_map, ne_eqb, contains_later, User, session_of, IsProper, StateValue, Context, Talk, Hearer, LOOPBACK, AreHeard, heard_as, heard_of, hearer_by, hearer_of, hearers_of, member_of, shares, can_hear, is_silent, Member, context_of, heard_from, member_by, reached_of}
+use Rattle.mum_route.proofs.{Gathered.heard_each, Gathered.passing_members, Hearers.found_own, Hearers.members}
 
 -- those whom a speaker reaches, with what their copies need
 abbrev hearing : User → (User → Option Context) → List User → List Hearer

@@ -1,28 +1,16 @@
 -- What a packet is aimed at, one thing after the other: at those whom talk reaches, or at those of an item of a voice target.
 use Rattle.std.specs.Prelude.{◌≡◌, ℕ, ◌<◌, ◌&&◌, Bool, true, false, List, [], filter, length, slice_index_or, Option, Some, None, IfSome, IsTrue, if◌then◌else◌}
-use Rattle.std.specs.List.{All, filter_map, zip}
-use Rattle.std.specs.Option.{option_map, option_map_or}
+use Rattle.std.specs.{List.All, List.filter_map, List.zip, Option.option_map, Option.option_map_or}
 use Rattle.mum_base.specs.Channels.{is_among}
-use Rattle.mum_base.specs.declared.number.ChannelId.{ChannelId}
-use Rattle.mum_base.specs.declared.number.SessionId.{SessionId}
-use Rattle.mum_base.specs.declared.perm.Perm.{Perm}
+use Rattle.mum_base.specs.declared.{number.ChannelId.ChannelId, number.SessionId.SessionId, perm.Perm.Perm}
 use Rattle.mum_base.specs.declared.perm.TheConstants.Perm.{SPEAK, WHISPER}
-use Rattle.mum_tree.specs.Rows.{is_there}
-use Rattle.mum_tree.specs.State.{TreeState}
-use Rattle.mum_tree.specs.Walks.{linked}
-use Rattle.mum_users.specs.declared.target.TargetItem.{TargetItem}
-use Rattle.mum_users.specs.declared.user.User.{User}
+use Rattle.mum_tree.specs.{Rows.is_there, State.TreeState, Walks.linked}
+use Rattle.mum_users.specs.declared.{target.TargetItem.TargetItem, user.User.User}
 use Rattle.mum_state.specs.State.{StateValue}
-use Rattle.mum_route.specs.declared.aim.Aim.{Aim}
-use Rattle.mum_route.specs.declared.aim.Ground.{Ground}
-use Rattle.mum_route.specs.declared.context.Context.{Context}
-use Rattle.mum_route.specs.declared.context.Context.TheVariants.{Talk, ChannelWhisper, DirectWhisper, Listener}
-use Rattle.mum_route.specs.declared.cover.Answer.{Answer}
+use Rattle.mum_route.specs.declared.{aim.Aim.Aim, aim.Ground.Ground, context.Context.Context, cover.Answer.Answer}
 use Rattle.mum_route.specs.declared.hearer.Hearer.{Hearer}
-use Rattle.mum_route.specs.Context.{code}
-use Rattle.mum_route.specs.Cover.{spread}
-use Rattle.mum_route.specs.Hearers.{shares}
-use Rattle.mum_route.specs.Hearing.{can_hear, may}
+use Rattle.mum_route.specs.declared.context.Context.TheVariants.{Talk, ChannelWhisper, DirectWhisper, Listener}
+use Rattle.mum_route.specs.{Context.code, Cover.spread, Hearers.shares, Hearing.can_hear, Hearing.may}
 use Rattle.mum_route.specs.Route.{Member, context_of, is_named, is_within, listens_within, member_by}
 
 -- an aim as plain data: whose it is, what permission it needs, from where it spreads, and whom it names
@@ -95,7 +83,8 @@ heard_by state aim user = if can_hear aim.speaker user then reached_by state aim
 -- what is known, by the places of channels, is whether the speaker has the permission there
 abbrev pub AreKnown : StateValue → SessionId → Perm → List (Option Bool) → Type 0
 AreKnown state speaker perm known =
-    All (λ row. IfSome (slice_index_or known row.place None) (λ answer. answer ≡ may state speaker perm row.channel.id)) state.tree.channels
+    All (λ row. IfSome (slice_index_or known row.place None)
+    (λ answer. answer ≡ may state speaker perm row.channel.id)) state.tree.channels
 
 -- what was answered last, if anything, is right
 abbrev pub IsAnswered : StateValue → Aimed → Option Answer → Type 0
@@ -107,7 +96,8 @@ AreMarked tree ground marks = IfSome ground (λ one. IsTrue one.links → marks 
 
 -- how a session hears what a speaker says to a target, if it does
 abbrev pub heard_as : StateValue → User → ℕ → User → Option Context
-heard_as state speaker target user = if can_hear speaker.session user then context_of state speaker target user else None
+heard_as state speaker target user =
+    if can_hear speaker.session user then context_of state speaker target user else None
 
 -- this is how each of these sessions hears the speaker
 abbrev pub AreHeard : (User → Option Context) → List User → List (Option Context) → Type 0
@@ -116,7 +106,8 @@ AreHeard heard users reached =
 
 -- a session that a speaker's packet reaches in this context, with what its copy needs
 abbrev pub hearer_by : User → User → Context → Hearer
-hearer_by own user context = record { session = user.session; slot = user.slot; context = code context; same = shares (Some own) user }
+hearer_by own user context =
+    record { session = user.session; slot = user.slot; context = code context; same = shares (Some own) user }
 
 -- those of these sessions that are reached, each with its context
 abbrev pub heard_of : User → List User → List (Option Context) → List Hearer

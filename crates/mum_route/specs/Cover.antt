@@ -3,11 +3,8 @@ use Rattle.std.specs.Prelude.{Bool, List, [], ◌∷◌, ◌++◌, filter, if◌
 use Rattle.std.specs.Option.{option_map_or}
 use Rattle.mum_base.specs.declared.number.ChannelId.{ChannelId}
 use Rattle.mum_base.specs.declared.perm.TheConstants.Perm.{SPEAK, WHISPER}
-use Rattle.mum_tree.specs.Rows.{is_there}
-use Rattle.mum_tree.specs.State.{TreeState, below}
-use Rattle.mum_tree.specs.Walks.{linked}
-use Rattle.mum_users.specs.declared.target.TargetItem.{TargetItem}
-use Rattle.mum_users.specs.declared.user.User.{User}
+use Rattle.mum_tree.specs.{Rows.is_there, State.TreeState, State.below, Walks.linked}
+use Rattle.mum_users.specs.declared.{target.TargetItem.TargetItem, user.User.User}
 use Rattle.mum_state.specs.State.{StateValue}
 use Rattle.mum_route.specs.Hearing.{may}
 

@@ -1,14 +1,11 @@
 -- Who hears a packet, with what the copy of each needs.
 use Rattle.std.specs.Prelude.{ℕ, ◌<◌, Bool, false, List, Option}
-use Rattle.std.specs.List.{filter_map}
-use Rattle.std.specs.Option.{option_map, option_map_or}
-use Rattle.std.specs.Str.{bytes_eq}
-use Rattle.mum_base.specs.declared.number.SessionId.{SessionId}
-use Rattle.mum_base.specs.declared.number.TheConstants.{SLOTS}
+use Rattle.std.specs.{List.filter_map, Option.option_map, Option.option_map_or, Str.bytes_eq}
+use Rattle.mum_base.specs.declared.number.{SessionId.SessionId, TheConstants.SLOTS}
 use Rattle.mum_users.specs.declared.user.User.{User}
 use Rattle.mum_users.specs.Sessions.{session_of}
-use Rattle.mum_state.specs.State.{StateValue}
 use Rattle.mum_voice.specs.Packet.{Parts, copy}
+use Rattle.mum_state.specs.State.{StateValue}
 use Rattle.mum_route.specs.declared.hearer.Hearer.{Hearer}
 use Rattle.mum_route.specs.Route.{Member, route}
 
@@ -19,7 +16,13 @@ shares speaker user = option_map_or (λ own. bytes_eq own.context user.context) 
 -- a member of a route in its slot, beside this speaker; whoever hears is there
 abbrev pub hearer_of : StateValue → SessionId → Member → Option Hearer
 hearer_of state speaker member = option_map
-    (λ user. record { session = member.0; slot = user.slot; context = member.1; same = shares (session_of state.roster speaker) user })
+    (λ user. record {
+      session = member.0;
+      slot = user.slot;
+      context = member.1;
+      same = shares
+          (session_of state.roster speaker) user;
+    })
     (session_of state.roster member.0)
 
 -- these members of a route of the speaker, each in its slot

@@ -1,16 +1,12 @@
 -- Who is heard, who hears, and what a session may do.
 use Rattle.std.specs.Prelude.{ℕ, ◌-◌, ◌==◌, ◌&&◌, ◌||◌, not, Bool, false, List, length, if◌then◌else◌}
 use Rattle.std.specs.Option.{option_map_or}
-use Rattle.mum_base.specs.declared.number.ChannelId.{ChannelId}
-use Rattle.mum_base.specs.declared.number.SessionId.{SessionId}
-use Rattle.mum_base.specs.declared.perm.Perm.{Perm}
-use Rattle.mum_policy.specs.Member.{Actor, member}
-use Rattle.mum_policy.specs.Walk.{holds, visits}
+use Rattle.mum_base.specs.declared.{number.ChannelId.ChannelId, number.SessionId.SessionId, perm.Perm.Perm}
+use Rattle.mum_policy.specs.{Member.Actor, Member.member, Walk.holds, Walk.visits}
 use Rattle.mum_tree.specs.Rows.{is_there, path}
 use Rattle.mum_users.specs.declared.user.User.{User}
 use Rattle.mum_users.specs.State.{has_number}
-use Rattle.mum_state.specs.Permissions.{actor_from, perm_of}
-use Rattle.mum_state.specs.State.{StateValue, policy_of}
+use Rattle.mum_state.specs.{Permissions.actor_from, Permissions.perm_of, State.StateValue, State.policy_of}
 
 -- whom nobody hears: a session that is muted, that muted itself, or that may not speak where it is
 abbrev pub is_silent : User → Bool
@@ -37,4 +33,5 @@ visits_where_there state who channel =
 abbrev pub is_in_group : StateValue → List ℕ → ChannelId → User → Bool
 is_in_group state group channel user =
     (length group == 0) ||
-    (let way : List ChannelId = path state.tree.channels channel in member (policy_of state) way (length way - 1) group (actor_from state.tree user))
+    (let way : List ChannelId = path state.tree.channels channel in member (policy_of state) way (length way - 1) group
+    (actor_from state.tree user))

@@ -1,24 +1,16 @@
 -- What holds of every route, in words of its own.
 use Rattle.std.specs.Prelude.{◌≡◌, ◌≢◌, ℕ, ◌+◌, ◌*◌, ◌^◌, ◌<◌, ◌⊎◌, ◌==◌, false, List, [], ◌∷◌, ◌++◌, map, Some, IsTrue, if◌then◌else◌}
 use Rattle.std.specs.List.{All, AllPairs, Contains}
-use Rattle.mum_base.specs.declared.number.ChannelId.{ChannelId}
-use Rattle.mum_base.specs.declared.number.SessionId.{SessionId}
-use Rattle.mum_base.specs.declared.perm.Perm.{Perm}
+use Rattle.mum_base.specs.declared.{number.ChannelId.ChannelId, number.SessionId.SessionId, perm.Perm.Perm}
 use Rattle.mum_base.specs.declared.perm.TheConstants.Perm.{LISTEN, SPEAK, WHISPER}
-use Rattle.mum_users.specs.declared.target.TargetItem.{TargetItem}
-use Rattle.mum_users.specs.declared.user.User.{User}
+use Rattle.mum_users.specs.declared.{target.TargetItem.TargetItem, user.User.User}
 use Rattle.mum_users.specs.Sessions.{session_of}
-use Rattle.mum_state.specs.Proper.{IsProper}
-use Rattle.mum_state.specs.Routed.{route_inputs}
-use Rattle.mum_state.specs.State.{StateValue}
-use Rattle.mum_voice.specs.Packet.{Parts}
-use Rattle.mum_voice.specs.Varint.{shortest_word}
-use Rattle.mum_route.specs.declared.routes.TheConstants.{LOOPBACK, TALK}
-use Rattle.mum_route.specs.declared.hearer.Hearer.{Hearer}
-use Rattle.mum_route.specs.Cover.{cover, talk}
-use Rattle.mum_route.specs.Hearers.{copy_for, hearers_at, member_of}
-use Rattle.mum_route.specs.Hearing.{can_hear, is_deaf, is_in_group, is_silent, may}
+use Rattle.mum_voice.specs.{Packet.Parts, Varint.shortest_word}
+use Rattle.mum_state.specs.{Proper.IsProper, Routed.route_inputs, State.StateValue}
+use Rattle.mum_route.specs.declared.{routes.TheConstants.LOOPBACK, routes.TheConstants.TALK, hearer.Hearer.Hearer}
+use Rattle.mum_route.specs.{Cover.cover, Cover.talk, Hearers.copy_for, Hearers.hearers_at, Hearers.member_of}
 use Rattle.mum_route.specs.Route.{Member, items_of, route}
+use Rattle.mum_route.specs.Hearing.{can_hear, is_deaf, is_in_group, is_silent, may}
 
 -- ---- the speaker
 
@@ -38,14 +30,16 @@ NeverToSpeaker =
 abbrev pub LoopbackToSpeaker : Type 0
 LoopbackToSpeaker =
     (state : StateValue) (speaker : SessionId) (user : User)
-    → session_of state.roster speaker ≡ Some user → is_silent user ≡ false → route state speaker LOOPBACK ≡ (speaker, 0) ∷ []
+    → session_of state.roster speaker ≡ Some user → is_silent user ≡ false
+    → route state speaker LOOPBACK ≡ (speaker, 0) ∷ []
 
 -- ---- the list
 
 -- the first is in a lower slot, so no session is there twice
 abbrev pub IsInLowerSlot : StateValue → Member → Member → Type 0
 IsInLowerSlot state one later =
-    (a : User) × (b : User) × (session_of state.roster one.0 ≡ Some a) × (session_of state.roster later.0 ≡ Some b) × (a.slot.0 < b.slot.0)
+    (a : User) × (b : User) × (session_of state.roster one.0 ≡ Some a) × (session_of state.roster later.0 ≡ Some b)
+    × (a.slot.0 < b.slot.0)
 
 abbrev pub StandInSlotOrder : Type 0
 StandInSlotOrder =
@@ -61,7 +55,8 @@ EachOnce =
 
 -- this holds of each member, by its row and the number of its context
 abbrev pub EachHears : StateValue → (User → ℕ → Type 0) → List Member → Type 0
-EachHears state Hears members = All (λ member. (user : User) × (session_of state.roster member.0 ≡ Some user) × Hears user member.1) members
+EachHears state Hears members =
+    All (λ member. (user : User) × (session_of state.roster member.0 ≡ Some user) × Hears user member.1) members
 
 abbrev pub NobodyDeaf : Type 0
 NobodyDeaf =
@@ -71,7 +66,8 @@ NobodyDeaf =
 -- the session listens to the channel, and may listen there
 abbrev pub Listens : StateValue → User → ChannelId → Type 0
 Listens state user channel =
-    Contains state.roster.listeners (record { session = user.session; channel = channel }) × IsTrue (may state user.session LISTEN channel)
+    Contains state.roster.listeners (record { session = user.session; channel = channel })
+    × IsTrue (may state user.session LISTEN channel)
 
 -- what a speaker needs in a channel where it is to be heard: Speak to talk, Whisper for a voice target
 abbrev pub needed_for : ℕ → Perm
@@ -82,7 +78,8 @@ abbrev pub HeardOnlyWhereAllowed : Type 0
 HeardOnlyWhereAllowed =
     (state : StateValue) (speaker : SessionId) (target : ℕ) → IsProper state → target ≢ LOOPBACK
     → EachHears state
-    (λ user code. (channel : ChannelId) × IsTrue (may state speaker (needed_for target) channel) × ((user.channel ≡ channel) ⊎ Listens state user channel))
+    (λ user code. (channel : ChannelId) × IsTrue (may state speaker (needed_for target) channel)
+    × ((user.channel ≡ channel) ⊎ Listens state user channel))
     (route state speaker target)
 
 -- ---- contexts, each only where none before it applies
@@ -91,7 +88,8 @@ abbrev pub IsInTalk : StateValue → User → User → Type 0
 IsInTalk state speaker user = Contains (talk state speaker) user.channel
 
 abbrev pub ListensToTalk : StateValue → User → User → Type 0
-ListensToTalk state speaker user = (channel : ChannelId) × Contains (talk state speaker) channel × Listens state user channel
+ListensToTalk state speaker user =
+    (channel : ChannelId) × Contains (talk state speaker) channel × Listens state user channel
 
 -- by talk: 0 in a covered channel, else 3 for who listens to one
 abbrev pub IsTalkContext : StateValue → User → User → ℕ → Type 0
@@ -106,7 +104,8 @@ IsCovered state speaker items user =
 
 abbrev pub IsNamed : StateValue → User → List TargetItem → User → Type 0
 IsNamed state speaker items user =
-    (item : TargetItem) × Contains items item × Contains item.sessions user.session × IsTrue (may state speaker.session WHISPER user.channel)
+    (item : TargetItem) × Contains items item × Contains item.sessions user.session
+    × IsTrue (may state speaker.session WHISPER user.channel)
 
 abbrev pub ListensToItems : StateValue → User → List TargetItem → User → Type 0
 ListensToItems state speaker items user =
@@ -118,11 +117,13 @@ abbrev pub IsItemContext : StateValue → User → List TargetItem → User → 
 IsItemContext state speaker items user code =
     ((code ≡ 1) × IsCovered state speaker items user)
     ⊎ (((code ≡ 2) × ¬ IsCovered state speaker items user × IsNamed state speaker items user)
-    ⊎ ((code ≡ 3) × ¬ IsCovered state speaker items user × ¬ IsNamed state speaker items user × ListensToItems state speaker items user))
+    ⊎ ((code ≡ 3) × ¬ IsCovered state speaker items user × ¬ IsNamed state speaker items user
+    × ListensToItems state speaker items user))
 
 abbrev pub ContextsByPrecedence : Type 0
 ContextsByPrecedence =
-    (state : StateValue) (speaker : SessionId) (user : User) → IsProper state → session_of state.roster speaker ≡ Some user
+    (state : StateValue) (speaker : SessionId) (user : User) → IsProper state
+    → session_of state.roster speaker ≡ Some user
     → EachHears state (IsTalkContext state user) (route state speaker TALK)
     × ((target : ℕ) → target ≢ TALK → target ≢ LOOPBACK
     → EachHears state (IsItemContext state user (items_of state speaker target)) (route state speaker target))
@@ -130,39 +131,47 @@ ContextsByPrecedence =
 -- and whoever can hear and is reached so does hear
 abbrev pub NobodyLeftOut : Type 0
 NobodyLeftOut =
-    (state : StateValue) (speaker : SessionId) (own user : User) → session_of state.roster speaker ≡ Some own → is_silent own ≡ false
+    (state : StateValue) (speaker : SessionId) (own user : User) → session_of state.roster speaker ≡ Some own
+    → is_silent own ≡ false
     → Contains state.roster.sessions user → IsTrue (can_hear speaker user)
     → ((code : ℕ) → IsTalkContext state own user code → Contains (route state speaker TALK) (user.session, code))
     × ((target code : ℕ) → target ≢ TALK → target ≢ LOOPBACK
-    → IsItemContext state own (items_of state speaker target) user code → Contains (route state speaker target) (user.session, code))
+    → IsItemContext state own (items_of state speaker target) user code
+    → Contains (route state speaker target) (user.session, code))
 
 -- ---- what is sent
 
 -- those who hear are the members of the route, in its order
 abbrev pub HearersAreTheRoute : Type 0
 HearersAreTheRoute =
-    (state : StateValue) (speaker : SessionId) (target : ℕ) → map member_of (hearers_at state speaker target) ≡ route state speaker target
+    (state : StateValue) (speaker : SessionId) (target : ℕ)
+    → map member_of (hearers_at state speaker target) ≡ route state speaker target
 
 -- each who hears is there, and in the slot that is kept for it
 abbrev pub EachInItsSlot : Type 0
 EachInItsSlot =
     (state : StateValue) (speaker : SessionId) (target : ℕ)
-    → All (λ hearer. (user : User) × (session_of state.roster hearer.session ≡ Some user) × (hearer.slot ≡ user.slot)) (hearers_at state speaker target)
+    → All (λ hearer. (user : User) × (session_of state.roster hearer.session ≡ Some user) × (hearer.slot ≡ user.slot))
+    (hearers_at state speaker target)
 
 -- what the copies of a packet in one context begin with: all but the position
 abbrev pub before_position : SessionId → Parts → ℕ → List ℕ
-before_position speaker packet context = (packet.kind * 2 ^ 5 + context) ∷ shortest_word speaker.0 ++ packet.sequence ++ packet.audio
+before_position speaker packet context =
+    (packet.kind * 2 ^ 5 + context) ∷ shortest_word speaker.0 ++ packet.sequence ++ packet.audio
 
 -- a copy ends with the position of its packet where the plugins of the two are in one context, and else has none
 abbrev pub HasPositionBy : User → User → SessionId → Parts → Hearer → Type 0
 HasPositionBy own user speaker packet hearer =
-    (own.context ≡ user.context → copy_for speaker packet hearer ≡ before_position speaker packet hearer.context ++ packet.position)
+    (own.context ≡ user.context
+    → copy_for speaker packet hearer ≡ before_position speaker packet hearer.context ++ packet.position)
     × (own.context ≢ user.context → copy_for speaker packet hearer ≡ before_position speaker packet hearer.context)
 
 abbrev pub PositionsByContext : Type 0
 PositionsByContext =
-    (state : StateValue) (speaker : SessionId) (target : ℕ) (packet : Parts) (own : User) → session_of state.roster speaker ≡ Some own
-    → All (λ hearer. (user : User) → session_of state.roster hearer.session ≡ Some user → HasPositionBy own user speaker packet hearer) (hearers_at state speaker target)
+    (state : StateValue) (speaker : SessionId) (target : ℕ) (packet : Parts) (own : User)
+    → session_of state.roster speaker ≡ Some own
+    → All (λ hearer. (user : User) → session_of state.roster hearer.session ≡ Some user
+    → HasPositionBy own user speaker packet hearer) (hearers_at state speaker target)
 
 -- ---- what it depends on
 

@@ -1,22 +1,15 @@
 -- Who hears a packet, and in which context.
 use Rattle.std.specs.Prelude.{ℕ, ◌==◌, ◌&&◌, Bool, List, [], ◌∷◌, filter, Option, Some, None, if◌then◌else◌}
-use Rattle.std.specs.List.{filter_map, list_any}
-use Rattle.std.specs.Option.{option_map, option_map_or}
+use Rattle.std.specs.{List.filter_map, List.list_any, Option.option_map, Option.option_map_or}
 use Rattle.mum_base.specs.Channels.{is_among}
-use Rattle.mum_base.specs.declared.number.ChannelId.{ChannelId}
-use Rattle.mum_base.specs.declared.number.SessionId.{SessionId}
+use Rattle.mum_base.specs.declared.number.{ChannelId.ChannelId, SessionId.SessionId}
 use Rattle.mum_base.specs.declared.perm.TheConstants.Perm.{LISTEN, WHISPER}
-use Rattle.mum_users.specs.declared.target.TargetItem.{TargetItem}
-use Rattle.mum_users.specs.declared.user.User.{User}
-use Rattle.mum_users.specs.Listeners.{pairs_of}
-use Rattle.mum_users.specs.Sessions.{session_of}
-use Rattle.mum_users.specs.Targets.{target_of}
+use Rattle.mum_users.specs.declared.{target.TargetItem.TargetItem, user.User.User}
+use Rattle.mum_users.specs.{Listeners.pairs_of, Sessions.session_of, Targets.target_of}
 use Rattle.mum_state.specs.State.{StateValue}
-use Rattle.mum_route.specs.declared.context.Context.{Context}
+use Rattle.mum_route.specs.declared.{context.Context.Context, routes.TheConstants.LOOPBACK, routes.TheConstants.TALK}
 use Rattle.mum_route.specs.declared.context.Context.TheVariants.{Talk, ChannelWhisper, DirectWhisper, Listener}
-use Rattle.mum_route.specs.declared.routes.TheConstants.{LOOPBACK, TALK}
-use Rattle.mum_route.specs.Context.{code}
-use Rattle.mum_route.specs.Cover.{cover, talk}
+use Rattle.mum_route.specs.{Context.code, Cover.cover, Cover.talk}
 use Rattle.mum_route.specs.Hearing.{can_hear, is_in_group, is_silent, may}
 
 -- ---- the ways in which a packet reaches a session
@@ -28,7 +21,8 @@ is_within state covered group user = is_among covered user.channel && is_in_grou
 -- it listens to one of these channels, is in the group there, and may listen there
 abbrev pub listens_within : StateValue → List ChannelId → List ℕ → User → Bool
 listens_within state covered group user = list_any
-    (λ pair. is_among covered pair.channel && is_in_group state group pair.channel user && may state user.session LISTEN pair.channel)
+    (λ pair. is_among covered pair.channel && is_in_group state group pair.channel user
+    && may state user.session LISTEN pair.channel)
     (pairs_of state.roster user.session)
 
 abbrev pub is_named : List SessionId → User → Bool
@@ -82,7 +76,8 @@ member_by user context = (user.session, code context)
 -- those of these sessions whom the speaker's packet reaches, in their order
 abbrev pub reached_of : StateValue → User → ℕ → List User → List Member
 reached_of state speaker target users =
-    filter_map (λ user. option_map (member_by user) (context_of state speaker target user)) (filter (can_hear speaker.session) users)
+    filter_map (λ user. option_map (member_by user) (context_of state speaker target user))
+    (filter (can_hear speaker.session) users)
 
 -- nobody hears who is silent; loopback comes back to the speaker, deaf or not; all else reaches others, in slot order
 abbrev pub heard_from : StateValue → User → ℕ → List Member

@@ -9,7 +9,7 @@ use mum_state::State;
 use mum_tree::Tree;
 use mum_users::{TargetItem, User};
 
-/// From where a packet spreads: a channel, all that links lead to from it, all below it.
+// From where a packet spreads: a channel, all that links lead to from it, all below it.
 #[derive(Clone, Copy, Debug)]
 pub(crate) struct Ground {
     pub(crate) top: ChannelId,
@@ -17,7 +17,7 @@ pub(crate) struct Ground {
     pub(crate) children: bool,
 }
 
-/// One thing that a packet is aimed at: talk, or an item of a voice target.
+// One thing that a packet is aimed at: talk, or an item of a voice target.
 #[derive(Clone, Copy, Debug)]
 pub(crate) struct Aim<'a> {
     pub(crate) speaker: SessionId,
@@ -30,7 +30,7 @@ pub(crate) struct Aim<'a> {
     pub(crate) named: &'a [SessionId],
 }
 
-/// From where an item of a voice target spreads.
+// From where an item of a voice target spreads.
 fn ground_of(tree: &Tree, item: &TargetItem) -> Option<Ground>
     ensures { result ≡ ground_of tree.now item.now }
 {
@@ -46,7 +46,7 @@ fn ground_of(tree: &Tree, item: &TargetItem) -> Option<Ground>
 }
 
 impl<'a> Aim<'a> {
-    /// Talk, which spreads over links.
+    // Talk, which spreads over links.
     pub(crate) fn talk(speaker: &User) -> Aim<'static>
         ensures { aimed result ≡ talk_aim speaker.now }
     {
@@ -64,7 +64,7 @@ impl<'a> Aim<'a> {
         }
     }
 
-    /// An item of a voice target.
+    // An item of a voice target.
     pub(crate) fn item(state: &State, speaker: SessionId, item: &'a TargetItem) -> Aim<'a>
         ensures { aimed result ≡ item_aim state.now speaker item.now }
     {

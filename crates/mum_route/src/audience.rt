@@ -53,7 +53,7 @@ impl Audience {
         self.hearers.is_empty()
     }
 
-    /// The session that so many precede, and the number of its context.
+    /// The session that n precede, and the number of its context.
     pub fn at(&self, i: usize) -> (SessionId, u8)
         requires { i < length self.now }
         ensures member { slice_get (map member_of self.now) i ≡ Some result }
@@ -83,14 +83,14 @@ impl Audience {
         Audience { hearers }
     }
 
-    /// Takes all out.
+    // Takes all out.
     pub(crate) fn clear(&mut self)
         ensures { self.new ≡ [] }
     {
         self.hearers.clear();
     }
 
-    /// One more behind the others.
+    // One more after the others.
     pub(crate) fn push(&mut self, hearer: Hearer)
         requires room { length self.old < SLOTS }
         requires range { IsInRange hearer }

@@ -31,7 +31,7 @@ impl Context {
         }
     }
 
-    /// Whether it counts, where the session is reached in another way already.
+    // Whether it counts, where the session is reached in another way already.
     pub(crate) fn comes_before(self, other: Option<Context>) -> bool
         ensures { result ≡ option_map_or (λ one. nat_lt (code self) (code one)) other true }
     {

@@ -17,21 +17,21 @@ use mum_state::State;
 use mum_tree::{Scratch, Tree};
 use std::sync::ledger::Ledger;
 
-/// Whether a channel is marked.
+// Whether a channel is marked.
 fn is_marked(scratch: &Scratch, channel: ChannelId) -> bool
     ensures { result ≡ is_among scratch.now channel }
 {
     scratch.marked(channel)
 }
 
-/// Whether a channel is the top, or below it.
+// Whether a channel is the top, or below it.
 fn is_below(tree: &Tree, top: ChannelId, channel: ChannelId) -> bool
     ensures { result ≡ is_among (below tree.now top) channel }
 {
     tree.is_below(top, channel)
 }
 
-/// Marks the channels that links lead to, where the ground spreads over links.
+// Marks the channels that links lead to, where the ground spreads over links.
 pub(crate) fn mark_links(tree: &Tree, ground: Option<Ground>, scratch: &mut Scratch)
     requires { IfSome ground (λ one. IsTrue (is_there tree.now.channels one.top)) }
     ensures { AreMarked tree.now ground scratch.new }
@@ -45,7 +45,7 @@ pub(crate) fn mark_links(tree: &Tree, ground: Option<Ground>, scratch: &mut Scra
 }
 
 impl Ground {
-    /// Whether the ground spreads over a channel.
+    // Whether the ground spreads over a channel.
     fn reaches(self, tree: &Tree, scratch: &Scratch, channel: ChannelId) -> bool
         requires { IsTrue self.links → scratch.now ≡ linked tree.now self.top }
         ensures { result ≡ is_among (spread tree.now self.links self.children self.top) channel }
@@ -56,7 +56,7 @@ impl Ground {
     }
 }
 
-/// Nothing is known of any channel yet.
+// Nothing is known of any channel yet.
 pub(crate) fn nothing_known() -> [Option<bool>; PLACES]
     ensures length { length result ≡ PLACES }
     ensures nothing { (place : ℕ) → slice_index_or result place None ≡ None }
@@ -64,8 +64,8 @@ pub(crate) fn nothing_known() -> [Option<bool>; PLACES]
     [None; PLACES]
 }
 
-/// Whether the speaker has a permission in a channel. What is found is kept, by place, and what is
-/// kept is not looked for again.
+// Whether the speaker has a permission in a channel. What is found is kept, by place, and what is
+// kept is not looked for again.
 pub(crate) fn has_right<T: Rights, L: Ledger>(
     rights: &mut T,
     state: &State,
@@ -94,14 +94,14 @@ pub(crate) fn has_right<T: Rights, L: Ledger>(
     answer
 }
 
-/// Whether an aim covers the channel that was asked last.
+// Whether an aim covers the channel that was asked last.
 #[derive(Clone, Copy)]
 pub(crate) struct Answer {
     channel: ChannelId,
     covered: bool,
 }
 
-/// Whether an aim covers a channel.
+// Whether an aim covers a channel.
 pub(crate) fn covers<T: Rights, L: Ledger>(
     rights: &mut T,
     state: &State,
@@ -128,7 +128,7 @@ pub(crate) fn covers<T: Rights, L: Ledger>(
     has_right(rights, state, aim.speaker, aim.perm, known, channel, steps)
 }
 
-/// The same, where what was answered last is kept, and is not looked for again.
+// The same, where what was answered last is kept, and is not looked for again.
 pub(crate) fn covers_again<T: Rights, L: Ledger>(
     rights: &mut T,
     state: &State,

@@ -56,7 +56,7 @@ impl Hearer {
     }
 }
 
-/// Whether a speaker is in the same context of its plugins.
+// Whether a speaker is in the same context of its plugins.
 #[inline(always)]
 fn shares(speaker: &User, user: &User) -> bool
     ensures { result ≡ shares (Some speaker.now) user.now }
@@ -64,7 +64,7 @@ fn shares(speaker: &User, user: &User) -> bool
     speaker.context.as_slice() == user.context.as_slice()
 }
 
-/// A session that a speaker's packet reaches in this context.
+// A session that a speaker's packet reaches in this context.
 #[inline(always)]
 pub(crate) fn hearer_by(speaker: &User, user: &User, context: Context) -> Hearer
     ensures { result ≡ hearer_by speaker.now user.now context }

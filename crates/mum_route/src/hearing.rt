@@ -14,21 +14,21 @@ use mum_state::{State, home_of, who_is};
 use mum_users::User;
 use std::sync::ledger::Ledger;
 
-/// Whether nobody hears a session.
+// Whether nobody hears a session.
 pub(crate) fn is_silent(user: &User) -> bool
     ensures { result ≡ is_silent user.now }
 {
     user.mute || user.self_mute || user.suppress
 }
 
-/// Whether a speaker's packet may reach a session.
+// Whether a speaker's packet may reach a session.
 pub(crate) fn can_hear(speaker: SessionId, user: &User) -> bool
     ensures { result ≡ can_hear speaker user.now }
 {
     user.session.0 != speaker.0 && !(user.deaf || user.self_deaf)
 }
 
-/// Whether a session has a permission in a channel.
+// Whether a session has a permission in a channel.
 pub(crate) fn may<T: Rights, L: Ledger>(
     rights: &mut T,
     state: &State,
@@ -47,7 +47,7 @@ pub(crate) fn may<T: Rights, L: Ledger>(
     }
 }
 
-/// Whether a session that is there, which entries and groups see like this, has a permission in a channel.
+// Whether a session that is there, which entries and groups see like this, has a permission in a channel.
 pub(crate) fn may_as<T: Rights, L: Ledger>(
     rights: &mut T,
     state: &State,
@@ -92,7 +92,7 @@ fn is_in_named(state: &State, group: &str, channel: ChannelId, user: &User) -> b
     }
 }
 
-/// Whether a session is in a group, asked in a channel that is there for an entry of that channel.
+// Whether a session is in a group, asked in a channel that is there for an entry of that channel.
 pub(crate) fn is_in_group(state: &State, group: &str, channel: ChannelId, user: &User) -> bool
     requires { IsTrue (is_there state.now.tree.channels channel) }
     ensures { result ≡ is_in_group state.now group.now channel user.now }

@@ -22,7 +22,7 @@ pub fn the_speaker()
     ensures loopback { LoopbackToSpeaker }
 {}
 
-/// Those who hear stand in the order of their slots, and none stands twice.
+/// Those who hear are in the order of their slots, and none comes twice.
 pub fn slot_order()
     ensures order { StandInSlotOrder }
     ensures once { EachOnce }

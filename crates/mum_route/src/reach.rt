@@ -25,7 +25,7 @@ use mum_tree::Scratch;
 use mum_users::{ListenerPair, User};
 use std::sync::ledger::Ledger;
 
-/// Whether a session is in a channel that an aim covers, and in its group there.
+// Whether a session is in a channel that an aim covers, and in its group there.
 fn is_within<T: Rights, L: Ledger>(
     rights: &mut T,
     state: &State,
@@ -60,14 +60,14 @@ fn is_within<T: Rights, L: Ledger>(
     ) && is_in_group(state, aim.group, user.channel, user)
 }
 
-/// Whether an aim names a session.
+// Whether an aim names a session.
 fn is_named(sessions: &[SessionId], user: &User) -> bool
     ensures { result ≡ is_named sessions.now user.now }
 {
     sessions.iter().any(|one| one.0 == user.session.0)
 }
 
-/// Whether an aim names a session, and the speaker has the permission where that is.
+// Whether an aim names a session, and the speaker has the permission where that is.
 fn is_named_there<T: Rights, L: Ledger>(
     rights: &mut T,
     state: &State,
@@ -98,7 +98,7 @@ fn is_named_there<T: Rights, L: Ledger>(
     )
 }
 
-/// Whether a session hears an aim by listening to a channel.
+// Whether a session hears an aim by listening to a channel.
 fn hears_in<T: Rights, L: Ledger>(
     rights: &mut T,
     state: &State,
@@ -132,7 +132,7 @@ fn hears_in<T: Rights, L: Ledger>(
     may_as(rights, state, user, who, Perm::LISTEN, channel, steps)
 }
 
-/// Whether a session hears an aim by listening to one of these channels.
+// Whether a session hears an aim by listening to one of these channels.
 fn hears_in_one<T: Rights, L: Ledger>(
     rights: &mut T,
     state: &State,
@@ -174,7 +174,7 @@ fn hears_in_one<T: Rights, L: Ledger>(
     false
 }
 
-/// Whether a session listens to a channel that an aim covers, is in its group there, and may listen.
+// Whether a session listens to a channel that an aim covers, is in its group there, and may listen.
 fn listens_within<T: Rights, L: Ledger>(
     rights: &mut T,
     state: &State,
@@ -201,8 +201,8 @@ fn listens_within<T: Rights, L: Ledger>(
     hears_in_one(rights, state, aim, known, user, pairs, scratch, steps)
 }
 
-/// The first way in which a session is reached: by this aim, or as it was before. Only what would come
-/// before that is looked for.
+// The first way in which a session is reached: by this aim, or as it was before. Only what would come
+// before that is looked for.
 fn reached_with<T: Rights, L: Ledger>(
     rights: &mut T,
     state: &State,
@@ -251,7 +251,7 @@ fn reached_with<T: Rights, L: Ledger>(
     before
 }
 
-/// Nobody is reached yet.
+// Nobody is reached yet.
 pub(crate) fn nobody_reached() -> [Option<Context>; SLOTS]
     ensures length { length result ≡ SLOTS }
     ensures nobody { (place : ℕ) → slice_index_or result place None ≡ None }
@@ -259,7 +259,7 @@ pub(crate) fn nobody_reached() -> [Option<Context>; SLOTS]
     [None; SLOTS]
 }
 
-/// Looks at each session for how an aim reaches it.
+// Looks at each session for how an aim reaches it.
 pub(crate) fn pass_aim<T: Rights, L: Ledger>(
     rights: &mut T,
     state: &State,

@@ -30,7 +30,7 @@ pub const TALK: u8 = 0;
 /// The target of a packet that comes back to its speaker. Those from 1 to 30 are voice targets.
 pub const LOOPBACK: u8 = 31;
 
-/// How each session hears talk, by its place among the sessions.
+// How each session hears talk, by its place among the sessions.
 fn reached_by_talk<T: Rights, L: Ledger>(
     rights: &mut T,
     state: &State,
@@ -61,7 +61,7 @@ fn reached_by_talk<T: Rights, L: Ledger>(
     reached
 }
 
-/// How each session hears what is said to these items of a voice target.
+// How each session hears what is said to these items of a voice target.
 fn reached_by_items<T: Rights, L: Ledger>(
     rights: &mut T,
     state: &State,
@@ -94,7 +94,7 @@ fn reached_by_items<T: Rights, L: Ledger>(
     reached
 }
 
-/// The items of a voice target; one that is not set has none.
+// The items of a voice target; one that is not set has none.
 fn items_of(state: &State, session: SessionId, target: u8) -> &[TargetItem]
     ensures { result.now ≡ items_of state.now session target }
 {
@@ -104,7 +104,7 @@ fn items_of(state: &State, session: SessionId, target: u8) -> &[TargetItem]
     }
 }
 
-/// How each session hears what is said to a target.
+// How each session hears what is said to a target.
 fn reached_by<T: Rights, L: Ledger>(
     rights: &mut T,
     state: &State,
@@ -125,7 +125,7 @@ fn reached_by<T: Rights, L: Ledger>(
     reached_by_items(rights, state, speaker, items, scratch, steps)
 }
 
-/// Appends a session, if the speaker's packet reaches it.
+// Appends a session, if the speaker's packet reaches it.
 #[inline(always)]
 fn push_reached(audience: &mut Audience, speaker: &User, user: &User, reached: Option<Context>)
     requires room { length audience.old < SLOTS }
@@ -137,7 +137,7 @@ fn push_reached(audience: &mut Audience, speaker: &User, user: &User, reached: O
     }
 }
 
-/// Appends those of these sessions that are reached to nobody.
+// Appends those of these sessions that are reached to nobody.
 fn gather(
     audience: &mut Audience,
     speaker: &User,
@@ -154,7 +154,7 @@ fn gather(
     }
 }
 
-/// Appends those who hear a session that is there to nobody.
+// Appends those who hear a session that is there to nobody.
 fn hear_from<T: Rights, L: Ledger>(
     rights: &mut T,
     state: &State,
@@ -170,7 +170,8 @@ fn hear_from<T: Rights, L: Ledger>(
     requires slot { speaker.now.slot.0 < SLOTS }
     requires nobody { audience.old ≡ [] }
     ensures members { map member_of audience.new ≡ heard_from state.now speaker.now target }
-    ensures hearers { audience.new ≡ hearers_of state.now speaker.now.session (heard_from state.now speaker.now target) }
+    ensures hearers { audience.new
+        ≡ hearers_of state.now speaker.now.session (heard_from state.now speaker.now target) }
     ensures sound { T.sound rights.new state.now }
 {
     if is_silent(speaker) {
@@ -224,7 +225,7 @@ pub fn hear_reached(
     gather(audience, speaker, state.roster().users(), reached);
 }
 
-/// Who hears what a session says to a target, in place of who was in the audience, as `route_into` tells it.
+/// Who hears what a session says to a target, in place of who was in the audience, as `route_into` reports it.
 /// What sessions may do in channels is asked of `rights`.
 pub fn route_with<T: Rights, L: Ledger>(
     rights: &mut T,
@@ -248,7 +249,7 @@ pub fn route_with<T: Rights, L: Ledger>(
 }
 
 /// Who hears what a session says to a target, in place of who was in the audience: 0 is talk, 1 to 30 a
-/// voice target, 31 loopback. They stand in slot order, each with what its copy needs. Nobody hears a session
+/// voice target, 31 loopback. They are in slot order, each with what its copy needs. Nobody hears a session
 /// that is not there.
 ///
 /// A step is counted for each entry of an access control list that is read; how many is not said. The
@@ -268,7 +269,7 @@ pub fn route_into<L: Ledger>(
     route_with(&mut Walk, state, speaker, target, scratch, steps, audience);
 }
 
-/// Who hears what a session says to a target, as `route_into` tells it.
+/// Who hears what a session says to a target, as `route_into` reports it.
 pub fn route<L: Ledger>(
     state: &State,
     speaker: SessionId,

@@ -1,26 +1,11 @@
 -- A look, and then the offers, are a route.
-use Rattle.std.proofs.Common.{◌≡◌, ℕ, ◌+◌, ◌-◌, Bool, true, false, List, [], ◌∷◌, filter, length, not, refl, ap, subst, arith, ◌∙◌}
-use Rattle.std.specs.Prelude.{if◌then◌else◌}
-use Rattle.std.specs.List.{FoldsTo}
-use Rattle.std.proofs.lemmas.List.{length-map}
-use Rattle.mum_base.specs.declared.number.SessionId.{SessionId}
-use Rattle.mum_outbox.specs.declared.parcel.VoiceParcel.{VoiceParcel}
-use Rattle.mum_outbox.specs.Facts.{PassFacts as BoxFacts}
-use Rattle.mum_published.specs.Facts.{Opening, PassFacts}
-use Rattle.mum_record.specs.declared.journal.Marked.{Marked}
-use Rattle.mum_voice.specs.Packet.{Parts}
-use Rattle.mum_cache.specs.declared.caches.Caches.{Caches}
-use Rattle.mum_route.specs.declared.hearer.Hearer.{Hearer}
-use Rattle.mum_router.specs.declared.offering.Routed.{Routed}
-use Rattle.mum_router.specs.Facts.{RouterFacts}
-use Rattle.mum_router.specs.Offering.{Delivers, DeliversEach, Delivery, was_sent}
-use Rattle.mum_router.specs.Picking.{Looks}
-use Rattle.mum_router.specs.Routing.{Routes}
+use Rattle.mum_router.proofs.Common.{◌≡◌, ℕ, ◌+◌, ◌-◌, Bool, true, false, List, [], ◌∷◌, filter, length, not, refl, ap, subst, arith, ◌∙◌, if◌then◌else◌, FoldsTo, length-map, SessionId, VoiceFacts, BoxFacts, Opening, Marked, Edit, Parts, Caches, Hearer, Routed, RouterFacts, Delivers, DeliversEach, Delivery, was_sent, Looks, Routes}
+use Rattle.mum_published.specs.Facts.{PassFacts}
 
-abbrev facts : PassFacts → Caches → List Hearer → List (BoxFacts VoiceParcel) → List Marked → RouterFacts
+abbrev facts : PassFacts → Caches → List Hearer → List (BoxFacts VoiceFacts) → List Marked → RouterFacts
 facts pass caches hearers outs marks = record { pass = pass; caches = caches; hearers = hearers; outs = outs; marks = marks }
 
-by_parts : (p q : PassFacts) (c d : Caches) (h k : List Hearer) (o : List (BoxFacts VoiceParcel)) (m n : List Marked)
+by_parts : (p q : PassFacts) (c d : Caches) (h k : List Hearer) (o : List (BoxFacts VoiceFacts)) (m n : List Marked)
     → p ≡ q → c ≡ d → h ≡ k → m ≡ n → facts p c h o m ≡ facts q d k o n
 by_parts p q c d h k o m n pass caches hearers marks =
     ap (λ (x : PassFacts). facts x c h o m) pass
@@ -40,9 +25,9 @@ sent_or_not (d ∷ ds) =
     let one = one_of d (filter was_sent ds) (filter (λ d. not (was_sent d)) ds) (length ds) (was_sent d) (sent_or_not ds) in
     omega (arith, one)
 
-pub routes : (opening : Opening) (old mid : RouterFacts) (outs : List (BoxFacts VoiceParcel)) (marks : List Marked) (speaker : SessionId) (packet : Parts) (routed : Routed)
+pub routes : (opening : Opening) (old mid : RouterFacts) (outs : List (BoxFacts VoiceFacts)) (marks : List Marked) (speaker : SessionId) (packet : Parts) (routed : Routed)
     → Looks opening old speaker packet mid
-    → DeliversEach speaker packet mid.hearers mid.outs outs marks routed.sent
+    → DeliversEach mid.pass.known speaker packet mid.hearers mid.outs outs marks routed.sent
     → routed.revision ≡ length mid.pass.known
     → routed.full ≡ length mid.hearers - routed.sent
     → Routes opening old speaker packet (record mid { outs = outs; marks = marks }) routed
@@ -61,7 +46,8 @@ routes opening old mid outs marks speaker packet routed looks each revision full
         router = by_parts mid.pass _ mid.caches mid.caches mid.hearers _ outs marks _ (ap (λ (r : RouterFacts). r.pass) picked.router) refl heard each.3;
         entry = picked.entry;
         each = each.1 ∙ heard;
-        offers = subst (λ (os : List (BoxFacts VoiceParcel)). FoldsTo (Delivers speaker packet) os ds outs) (ap (λ (r : RouterFacts). r.outs) picked.router) each.2;
+        offers = subst (λ (os : List (BoxFacts VoiceFacts)). FoldsTo (Delivers looks.0 speaker packet) os ds outs) (ap (λ (r : RouterFacts). r.outs) picked.router)
+            (subst (λ (edits : List Edit). FoldsTo (Delivers edits speaker packet) mid.outs ds outs) (ap (λ (r : RouterFacts). r.pass.known) picked.router) each.2);
         revision = revision ∙ ap (λ (r : RouterFacts). length r.pass.known) picked.router;
         sent = sent;
         full = omega (arith, full, all, whole, parts, sent);

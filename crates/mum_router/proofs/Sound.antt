@@ -1,29 +1,14 @@
 -- What is kept is sound at each later look.
-use Rattle.std.proofs.Common.{◌≡◌, List, [], ◌∷◌, ◌++◌, ap, subst, sym, ◌∙◌}
-use Rattle.std.specs.Prelude.{IsTrue}
-use Rattle.std.proofs.lemmas.Bool.{and_parts}
-use Rattle.std.proofs.lemmas.List.Sums.{fold-append}
-use mathlib.Core.List.{IsPrefix}
-use Rattle.mum_state.specs.declared.edit.Edit.{Edit}
-use Rattle.mum_state.specs.After.{all_fit, led_to}
-use Rattle.mum_state.specs.Applied.{applied}
-use Rattle.mum_state.specs.Fits.{fits}
-use Rattle.mum_state.specs.Proper.{IsProper}
-use Rattle.mum_state.specs.State.{StateValue}
-use Rattle.mum_state.proofs.Keeping.{keeps_proper_lem}
-use Rattle.mum_published.proofs.Fitting.{prefix_fits}
-use Rattle.mum_cache.specs.declared.caches.Caches.{Caches}
-use Rattle.mum_cache.specs.Caches.{AreSound}
-use Rattle.mum_cache.proofs.Staying.{sound_stays_lem}
+use Rattle.mum_router.proofs.Common.{◌≡◌, List, [], ◌∷◌, ◌++◌, ap, subst, sym, ◌∙◌, IsTrue, and_parts, fold-append, IsPrefix, Edit, all_fit, led_to, applied, fits, IsProper, StateValue, keeps_proper_lem, prefix_fits, Caches, AreSound, sound_stays_lem}
 
--- ---- edits behind others
+-- ---- edits after others
 
 back_fits : (state : StateValue) (edits more : List Edit) → IsTrue (all_fit state (edits ++ more)) → IsTrue (all_fit (led_to state edits) more)
 back_fits state [] more fit = fit
 back_fits state (edit ∷ edits) more fit =
     back_fits (applied state edit) edits more (and_parts (fits state edit) (all_fit (applied state edit) (edits ++ more)) fit).1
 
--- those behind the first of a list fit from where the first lead
+-- those after the first of a list fit from where the first lead
 pub rest_fits : (state : StateValue) (edits all : List Edit) (front : IsPrefix edits all) → IsTrue (all_fit state all) → IsTrue (all_fit (led_to state edits) front.0)
 rest_fits state edits all front fit =
     back_fits state edits front.0 (subst (λ (list : List Edit). IsTrue (all_fit state list)) (sym front.1) fit)

@@ -1,21 +1,20 @@
 -- One look for those who hear a packet.
 use Rattle.std.specs.Prelude.{◌≡◌, ℕ, List, length, map, min}
 use Rattle.mum_base.specs.declared.number.SessionId.{SessionId}
-use Rattle.mum_outbox.specs.declared.rule.TheConstants.{LAST}
-use Rattle.mum_published.specs.declared.ask.Ask.{Ask}
-use Rattle.mum_published.specs.Calls.{MayMeet, looked, state_of}
-use Rattle.mum_published.specs.Facts.{Opening, PassFacts}
-use Rattle.mum_route.specs.declared.hearer.Hearer.{Hearer}
-use Rattle.mum_route.specs.Route.{route}
-use Rattle.mum_state.specs.declared.edit.Edit.{Edit}
 use Rattle.mum_voice.specs.Packet.{Parts, client_bytes}
+use Rattle.mum_outbox.specs.declared.rule.TheConstants.{LAST}
+use Rattle.mum_state.specs.declared.edit.Edit.{Edit}
+use Rattle.mum_route.specs.declared.hearer.Hearer.{Hearer}
+use Rattle.mum_route.specs.{Route.route, Hearers.hearers_at, Hearers.member_of}
+use Rattle.mum_published.specs.declared.ask.Ask.{Ask}
+use Rattle.mum_published.specs.{Calls.MayMeet, Calls.looked, Calls.state_of, Facts.Opening, Facts.PassFacts}
 use Rattle.mum_cache.specs.Routes.{KeepsAsked, RouteAnswers}
 use Rattle.mum_router.specs.Facts.{RouterFacts}
-use Rattle.mum_route.specs.Hearers.{hearers_at, member_of}
 
 -- what a look asks for a packet
 abbrev pub ask_of : SessionId → Parts → Ask
-ask_of speaker packet = record { speaker = speaker; target = packet.target; packet = record { items = client_bytes packet } }
+ask_of speaker packet =
+    record { speaker = speaker; target = packet.target; packet = record { items = client_bytes packet } }
 
 -- a look that saw these edits: who hears is kept, each in its slot at their state, and those are the members of the route.
 -- The entry of the speaker and the target is kept too. The passes of the boxes and the marks are as before
@@ -39,7 +38,7 @@ Looks opening old speaker packet new = (edits : List Edit) × LooksAt opening ol
 abbrev pub Picks : Opening → RouterFacts → SessionId → Parts → RouterFacts → List Hearer → Type 0
 Picks opening old speaker packet new audience = Looks opening old speaker packet new × (audience ≡ new.hearers)
 
--- the entry of the speaker and the target stood already at the state that the look saw
+-- the entry of the speaker and the target was valid already at the state that the look saw
 abbrev pub EntryStood : Opening → RouterFacts → SessionId → Parts → RouterFacts → Type 0
 EntryStood opening old speaker packet new =
     RouteAnswers (state_of opening new.pass.seen) speaker packet.target old.caches.routes

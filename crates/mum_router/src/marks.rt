@@ -7,7 +7,7 @@ use mum_record::Marked;
 use std::alloc::Global;
 use std::marker::Model;
 
-/// What became of each copy of a packet, in room that is taken once.
+// What became of each copy of a packet, in room that is taken once.
 #[derive(Drop)]
 pub(crate) struct Marks {
     list: Vec<Marked>,
@@ -27,7 +27,7 @@ impl Model for Marks {
 }
 
 impl Marks {
-    /// No copy, with room for one for each slot.
+    // No copy, with room for one for each slot.
     pub(crate) fn new(alloc: Global) -> Result<Marks, OutOfMemory>
         ensures { IfOk result (λ marks. marks ≡ []) }
     {

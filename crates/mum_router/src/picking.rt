@@ -58,7 +58,7 @@ fn ask_of(speaker: SessionId, packet: &Packet) -> Ask
     }
 }
 
-/// One look, for those who hear a packet. What is kept is sound where it was, and then where the look was.
+// One look, for those who hear a packet. What is kept is sound where it was, and then where the look was.
 pub(crate) fn look_for<W: Wait, L: Ledger>(
     rt: &W,
     pass: &mut Pass,

@@ -9,13 +9,14 @@ ghost use Rattle.mum_router.specs.Offering.{copies_of, full_of};
 ghost use Rattle.mum_router.specs.Picking.{EntryStood, Looks, Picks, looks_of};
 ghost use Rattle.mum_router.specs.Routing.{Routes};
 
+use crate::draft::Draft;
 use crate::marks::Marks;
 use crate::offering::{Routed, count_full, count_sent, deliver_each};
 use crate::outlet::Out;
 use crate::picking::look_for;
 use mum_base::{OutOfMemory, SLOTS, SessionId, Steps};
 use mum_cache::Caches;
-use mum_outbox::VoiceBox;
+use mum_parcel::VoiceBox;
 use mum_published::{Naming, Note, Pass, Roll};
 use mum_record::Marked;
 use mum_route::{Audience, Hearer};
@@ -35,9 +36,9 @@ pub struct Router<N: Naming> {
     scratch: Scratch,
     hearers: Audience,
     // One for each slot.
-    outs: Vec<Out>,
+    outs: Vec<Out<N>>,
     marks: Marks,
-    // How many looks there were. It stands still at its last value.
+    // How many looks there were. It stays at its last value.
     looks: u64,
     of: PhantomData<N>,
 }
@@ -68,7 +69,7 @@ impl<N: Naming> Model for Router<N> {
 }
 
 // Each box with a new pass of it.
-fn outs_of(alloc: Global, voices: Vec<VoiceBox>) -> Result<Vec<Out>, OutOfMemory>
+fn outs_of<N: Naming>(alloc: Global, voices: Vec<VoiceBox<N>>) -> Result<Vec<Out<N>>, OutOfMemory>
     ensures { IfOk result (λ outs. outs.items ≡ map new_pass voices.items) }
 {
     let mut outs = Vec::new(alloc);
@@ -81,7 +82,11 @@ fn outs_of(alloc: Global, voices: Vec<VoiceBox>) -> Result<Vec<Out>, OutOfMemory
 impl<N: Naming> Router<N> {
     /// A router that has routed nothing, over a pass that made no look and one voice box for each slot. It
     /// makes a pass of each box.
-    pub fn open(alloc: Global, pass: Pass, voices: Vec<VoiceBox>) -> Result<Router<N>, OutOfMemory>
+    pub fn open(
+        alloc: Global,
+        pass: Pass,
+        voices: Vec<VoiceBox<N>>,
+    ) -> Result<Router<N>, OutOfMemory>
         requires opening { pass.opening ≡ N.opening }
         requires proper { IsProper N.opening.state }
         requires no_look { pass.asks ≡ [] }
@@ -107,7 +112,7 @@ impl<N: Naming> Router<N> {
         })
     }
 
-    /// Learns what a note tells: no later look sees less. It takes no memory and waits for nobody.
+    /// Learns what a note reports: no later look sees less. It takes no memory and waits for nobody.
     pub fn learn(&mut self, note: &Note)
         requires { note.now.book ≡ N.opening.book }
         ensures learnt { Learnt self.old.pass note.now.edits self.new.pass }
@@ -135,7 +140,8 @@ impl<N: Naming> Router<N> {
     )
         requires { IsPacket (plain_parts packet.now) }
         ensures looks { Looks N.opening self.old speaker (plain_parts packet.now) self.new }
-        ensures steps { EntryStood N.opening self.old speaker (plain_parts packet.now) self.new → steps.new ≡ steps.old }
+        ensures steps { EntryStood N.opening self.old speaker (plain_parts packet.now) self.new
+            → steps.new ≡ steps.old }
     {
         look_for(
             rt,
@@ -163,7 +169,8 @@ impl<N: Naming> Router<N> {
     ) -> Audience
         requires { IsPacket (plain_parts packet.now) }
         ensures picks { Picks N.opening self.old speaker (plain_parts packet.now) self.new result }
-        ensures steps { EntryStood N.opening self.old speaker (plain_parts packet.now) self.new → steps.new ≡ steps.old }
+        ensures steps { EntryStood N.opening self.old speaker (plain_parts packet.now) self.new
+            → steps.new ≡ steps.old }
     {
         self.look(rt, speaker, packet, steps);
         self.hearers.copy()
@@ -181,16 +188,18 @@ impl<N: Naming> Router<N> {
     ) -> Routed
         requires { IsPacket (plain_parts packet.now) }
         ensures routes { Routes N.opening self.old speaker (plain_parts packet.now) self.new result }
-        ensures steps { EntryStood N.opening self.old speaker (plain_parts packet.now) self.new → steps.new ≡ steps.old }
+        ensures steps { EntryStood N.opening self.old speaker (plain_parts packet.now) self.new
+            → steps.new ≡ steps.old }
     {
         self.look(rt, speaker, packet, steps);
+        let mut draft = Draft::new(speaker, self.pass.note());
         let hearers = self.hearers.as_slice();
         let count = hearers.len() as u32;
         let sent = deliver_each(
             rt,
-            speaker,
             packet,
             hearers,
+            &mut draft,
             &mut self.outs,
             &mut self.marks,
         );
@@ -231,21 +240,21 @@ impl<N: Naming> Router<N> {
         self.marks.as_slice()
     }
 
-    /// How many looks there were. It stands still at its last value.
+    /// How many looks there were. It stays at its last value.
     pub fn looks(&self) -> u64
         ensures { result ≡ looks_of self.now.pass }
     {
         self.looks
     }
 
-    /// How many copies were sent. It stands still at its last value.
+    /// How many copies were sent. It stays at its last value.
     pub fn copies(&self) -> u64
         ensures { result ≡ copies_of self.now.outs }
     {
         count_sent(&self.outs)
     }
 
-    /// How many copies found a full box. It stands still at its last value.
+    /// How many copies found a full box. It stays at its last value.
     pub fn full(&self) -> u64
         ensures { result ≡ full_of self.now.outs }
     {

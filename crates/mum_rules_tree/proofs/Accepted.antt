@@ -1,58 +1,9 @@
 -- An accepted command on channels is an edit that fits.
-use Rattle.std.proofs.Common.{◌≡◌, ℕ, ◌+◌, ◌-◌, ◌^◌, ◌&&◌, ◌||◌, Bool, true, false, not, cond, leb, ltb, List, [], ◌∷◌, ◌++◌, length, map, Option, Some, None, refl, arith, ap, sym, ◌∙◌, subst, ⊎_elim}
-use Rattle.std.specs.List.{filter, list_all, list_any}
-use Rattle.std.specs.Option.{is_none, option_map_or, option_or}
-use Rattle.std.specs.Prelude.{unwrap_or, bit_and}
-use Rattle.std.proofs.lemmas.Bool.{and_from, and_parts, cases_Bool, eq-eqb, leb-false, lt-ltb, not-false, not_from_false, or_parts}
-use Rattle.std.proofs.lemmas.List.Folds.{list_all-append}
-use Rattle.std.proofs.lemmas.Nat.{and_assoc, and_comm}
-use Rattle.mum_base.specs.declared.number.ChannelId.{ChannelId}
-use Rattle.mum_base.specs.declared.number.SessionId.{SessionId}
-use Rattle.mum_base.specs.declared.number.TheConstants.ChannelId.{ROOT}
-use Rattle.mum_base.specs.declared.perm.TheConstants.Perm.{ALL}
-use Rattle.mum_msg_rule.specs.declared.acl.Acl.{Acl as AclMessage}
-use Rattle.mum_msg_rule.specs.declared.acl_line.AclLine.{AclLine}
-use Rattle.mum_msg_state.specs.declared.channel_state.ChannelState.{ChannelState}
-use Rattle.mum_policy.specs.declared.policy.ChannelPolicy.{ChannelPolicy}
-use Rattle.mum_policy.specs.declared.policy.Group.{Group}
-use Rattle.mum_policy.specs.Limits.{is_large_policy}
-use Rattle.mum_policy.specs.Member.{Actor}
-use Rattle.mum_policy.specs.Walk.{holds}
-use Rattle.mum_tree.specs.declared.channel.TheConstants.{PATH_LIMIT}
-use Rattle.mum_tree.specs.declared.fault.TreeFault.{TreeFault}
-use Rattle.mum_tree.specs.declared.fault.TreeFault.TheVariants.{NoChannel, SameName, UnderItself, Nesting, Count, RootFixed, TemporaryParent, LinkCount}
-use Rattle.mum_tree.specs.Change.{Change, fault_of_edit, name_after, overlinks, parent_after, renames_or_moves}
-use Rattle.mum_tree.specs.Change.{names_there as change_names_there}
-use Rattle.mum_tree.specs.Refusals.{fault_of_add, fault_of_remove, fault_of_placement, is_full}
-use Rattle.mum_tree.specs.Rows.{is_below, is_root, is_taken, is_temporary, is_there, nests, path}
-use Rattle.mum_tree.specs.State.{TreeState, next_number}
-use Rattle.mum_users.specs.State.{has_number}
-use Rattle.mum_state.specs.declared.count.TheConstants.{EDIT_LIMIT}
-use Rattle.mum_state.specs.declared.edit.Edit.{Edit}
-use Rattle.mum_state.specs.declared.edit.Edit.TheVariants.{RemoveChannel, SetAcl}
-use Rattle.mum_state.specs.declared.verdict.Verdict.TheVariants.{Answer, Ignored}
-use Rattle.mum_state.specs.Fits.{fits, gives_right_numbers, holds_of_given, is_countable, sets_properly}
-use Rattle.mum_state.specs.Named.{given, named_account, named_channels, named_sessions, names_there}
-use Rattle.mum_state.specs.Proper.{IsProper, is_name, is_sound_entry, is_text}
-use Rattle.mum_state.specs.State.{StateValue, has_account, policy_of}
-use Rattle.mum_rules_tree.specs.declared.message.TreeMessage.{TreeMessage}
-use Rattle.mum_rules_tree.specs.declared.message.TreeMessage.TheVariants.{State, Remove, Acl}
-use Rattle.mum_rules_tree.specs.Asked.{Command, change_asked, channel, channel_or_root, command_of, is_named_there, is_number_there, is_query, new_parent, others, parent_of_new, text_or_empty}
-use Rattle.mum_rules_tree.specs.Asked.{names_there as names_there_in}
-use Rattle.mum_base.specs.Codes.{reason_code}
-use Rattle.mum_base.specs.declared.outcome.Reason.TheVariants.{NotThere}
-use Rattle.mum_rules_tree.specs.Decision.{FitsWhereAccepted, first_lack, first_standing}
-use Rattle.mum_rules_tree.specs.Limits.{limits, limits_of_change, limits_of_new, limits_of_policy, limits_of_removal, new_number}
-use Rattle.mum_rules_tree.specs.Needs.{needs}
-use Rattle.mum_rules_tree.specs.Outcome.{answer_frame, edit_to_change, edit_to_make, outcome}
-use Rattle.mum_rules_tree.specs.Policy.{entry_asked, is_inherited, policy_asked}
-use Rattle.mum_rules_tree.specs.Reasons.{is_gone, reasons, takes_no_edits}
-use Rattle.mum_rules_tree.specs.Verdict.{command_verdict, tree_verdict, actor_named}
-use Rattle.mum_rules_tree.proofs.Cleared.{all_off, fits_unless}
-use Rattle.mum_rules_tree.proofs.Named.{AreThere, are_there, change_there, given_there, some_found}
-use Rattle.mum_rules_tree.proofs.Parted.{parted}
+use Rattle.mum_rules_tree.proofs.Common.{◌≡◌, ℕ, ◌+◌, ◌-◌, ◌^◌, ◌&&◌, ◌||◌, Bool, true, false, not, cond, leb, ltb, List, [], ◌∷◌, ◌++◌, length, map, Option, Some, None, refl, arith, ap, sym, ◌∙◌, subst, ⊎_elim, filter, list_all, list_any, is_none, option_map_or, option_or, unwrap_or, bit_and, and_from, and_parts, cases_Bool, eq-eqb, leb-false, lt-ltb, not-false, not_from_false, or_parts, list_all-append, and_assoc, and_comm, ChannelId, SessionId, ROOT, ALL, AclMessage, AclLine, ChannelState, ChannelPolicy, Group, is_large_policy, Actor, holds, PATH_LIMIT, TreeFault, NoChannel, SameName, UnderItself, Nesting, Count, RootFixed, TemporaryParent, LinkCount, Change, fault_of_edit, name_after, overlinks, parent_after, renames_or_moves, change_names_there, fault_of_add, fault_of_remove, fault_of_placement, is_full, is_below, is_root, is_taken, is_temporary, is_there, nests, path, TreeState, next_number, has_number, EDIT_LIMIT, Edit, RemoveChannel, SetAcl, Answer, Ignored, fits, gives_right_numbers, holds_of_given, is_countable, sets_properly, given, named_account, named_channels, named_sessions, IsProper, is_name, is_sound_entry, is_text, StateValue, has_account, policy_of, TreeMessage, State, Remove, Acl, Command, change_asked, channel, channel_or_root, command_of, is_named_there, is_number_there, is_query, new_parent, others, parent_of_new, text_or_empty, names_there_in, reason_code, NotThere, FitsWhereAccepted, first_lack, first_standing, limits, limits_of_change, limits_of_new, limits_of_policy, limits_of_removal, new_number, needs, answer_frame, edit_to_change, edit_to_make, outcome, entry_asked, is_inherited, policy_asked, is_gone, reasons, takes_no_edits, command_verdict, tree_verdict, actor_named}
+use Rattle.mum_state.specs.Named.{names_there}
+use Rattle.mum_rules_tree.proofs.{Cleared.all_off, Cleared.fits_unless, Named.AreThere, Named.are_there, Named.change_there, Named.given_there, Named.some_found, Parted.parted}
 
--- ---- whoever asks is there, and edits are taken
+-- ---- the actor is there, and edits are taken
 
 -- what no reason to ignore a message leaves
 record IsHeard (state : StateValue) (actor : SessionId) : Type 0 where
@@ -161,7 +112,7 @@ change_allowed tree id change there seat links =
     ∙ ap (λ (s : Option TreeFault). option_map_or (λ fault. Some fault) s over) seat
     ∙ ap (λ (b : Bool). cond b (Some LinkCount) None) links
 
--- a change against which no limit stands is one that the tree takes, with a good name and description
+-- a change which no limit forbids is one that the tree takes, with a good name and description
 record IsGood (tree : TreeState) (id : ChannelId) (change : Change) : Type 0 where
   taken : fault_of_edit tree id change ≡ None
   name : holds_of_given is_name change.name ≡ true
@@ -263,7 +214,7 @@ policy_fits state actor id message heard there free =
 
 -- ---- every command
 
--- a verdict on a command fits, where its outcome does once no limit stands
+-- a verdict on a command fits, where its outcome does once no limit applies
 command_fits : (state : StateValue) (who : Actor) (actor : SessionId) (command : Command) → (first_standing (limits state command) ≡ None → FitsWhereAccepted state (outcome state actor command)) → FitsWhereAccepted state (command_verdict state who actor command)
 command_fits state who actor command fitting =
     fits_unless state _ (first_lack state (needs state.tree who command)) _ (λ lack. tt) (λ none.

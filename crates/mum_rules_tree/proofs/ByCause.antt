@@ -1,19 +1,6 @@
 -- The limits of a change by what the tree says against it.
-use Rattle.std.proofs.Common.{◌≡◌, ◌&&◌, ◌||◌, Bool, true, false, not, cond, List, [], ◌∷◌, Option, Some, None, refl, ap, ◌∙◌}
-use Rattle.std.specs.List.{list_any}
-use Rattle.std.specs.Option.{option_map_or}
-use Rattle.mum_base.specs.declared.number.ChannelId.{ChannelId}
-use Rattle.mum_tree.specs.declared.fault.TreeFault.{TreeFault}
-use Rattle.mum_tree.specs.declared.fault.TreeFault.TheVariants.{NoChannel, SameName, UnderItself, Nesting, RootFixed, TemporaryParent, LinkCount}
-use Rattle.mum_tree.specs.Change.{Change, fault_of_edit, name_after, names_there, overlinks, parent_after, renames_or_moves}
-use Rattle.mum_tree.specs.Rows.{is_below, is_root, is_taken, is_temporary, nests}
-use Rattle.mum_tree.specs.State.{TreeState}
-use Rattle.mum_state.specs.Fits.{holds_of_given}
-use Rattle.mum_state.specs.Proper.{is_name, is_text}
-use Rattle.mum_base.specs.declared.outcome.DenyType.{DenyType}
-use Rattle.mum_base.specs.declared.outcome.DenyType.TheVariants.{ChannelName, NestingLimit, TemporaryChannel, Text, TextTooLong}
-use Rattle.mum_rules_tree.specs.Decision.{case_of, first_standing}
-use Rattle.mum_rules_tree.specs.Limits.{limit_by_cause, limits_of_change, without_parting}
+use Rattle.mum_rules_tree.proofs.Common.{◌≡◌, ◌&&◌, ◌||◌, Bool, true, false, not, cond, List, [], ◌∷◌, Option, Some, None, refl, ap, ◌∙◌, list_any, option_map_or, ChannelId, TreeFault, NoChannel, SameName, UnderItself, Nesting, RootFixed, TemporaryParent, LinkCount, Change, fault_of_edit, name_after, overlinks, parent_after, renames_or_moves, is_below, is_root, is_taken, is_temporary, nests, TreeState, holds_of_given, is_name, is_text, DenyType, ChannelName, NestingLimit, TemporaryChannel, Text, TextTooLong, case_of, first_standing, limit_by_cause, limits_of_change, without_parting}
+use Rattle.mum_tree.specs.Change.{names_there}
 
 -- what the tree says where all that is named is there
 abbrev said : Bool → Bool → Bool → Bool → Bool → Bool → Bool → Option TreeFault
@@ -63,7 +50,7 @@ either : (named short renamed_or_moved root taken below temporary deep over : Bo
 either named short true root taken below temporary deep over = moves named short root taken below temporary deep over
 either named short false root taken below temporary deep over = stays named short root taken below temporary deep over
 
--- the limit that the tree's cause and the two tests give is the first that stands
+-- the limit that the tree's cause and the two tests give is the first that applies
 pub by_cause : (tree : TreeState) (id : ChannelId) (change : Change) → names_there tree id change ≡ true → change.links_remove ≡ [] → limit_by_cause (fault_of_edit tree id change) (holds_of_given is_name change.name) (holds_of_given is_text change.description) ≡ first_standing (limits_of_change tree id change)
 by_cause tree id change there none_goes =
     let rows = tree.channels in

@@ -1,17 +1,11 @@
--- Where nothing stands against a command, each thing that might is not so.
-use Rattle.std.proofs.Common.{◌≡◌, Bool, true, false, cond, List, [], ◌∷◌, Option, Some, None, refl}
-use Rattle.std.specs.Bool.{⊤}
-use Rattle.std.specs.List.{find}
-use Rattle.std.specs.Option.{option_map, option_map_or}
-use Rattle.mum_state.specs.declared.verdict.Verdict.{Verdict}
-use Rattle.mum_state.specs.State.{StateValue}
-use Rattle.mum_rules_tree.specs.Decision.{Case, FitsWhereAccepted, first_standing}
+-- Where nothing forbids a command, each thing that might is not so.
+use Rattle.mum_rules_tree.proofs.Common.{◌≡◌, Bool, true, false, cond, List, [], ◌∷◌, Option, Some, None, refl, ⊤, find, option_map, option_map_or, Verdict, StateValue, Case, FitsWhereAccepted, first_standing}
 
 cleared_at : {Code : Type 0} (b : Bool) (one : Case Code) (rest : Option (Case Code)) → option_map (λ (c : Case Code). c.code) (cond b (Some one) rest) ≡ None → (b ≡ false) × (option_map (λ (c : Case Code). c.code) rest ≡ None)
 cleared_at true one rest none = cc
 cleared_at false one rest none = (refl, none)
 
--- none of these stands
+-- none of these applies
 abbrev pub AllOff : {Code : Type 0} → List (Case Code) → Type 0
 AllOff [] = ⊤
 AllOff (one ∷ cases) = (one.stands ≡ false) × AllOff cases

@@ -1,44 +1,8 @@
 -- What decides a message: the first reason, need or limit, or else what it asks.
-use Rattle.std.proofs.Common.{◌≡◌, ℕ, ◌||◌, Bool, true, false, not, cond, eqb, List, [], ◌∷◌, ◌++◌, map, Option, Some, None, refl, ap, sym, ◌∙◌, subst}
-use Rattle.std.specs.List.{find, All}
-use Rattle.std.specs.Option.{is_some, option_map, option_map_or}
-use Rattle.std.proofs.lemmas.Bool.{cond-false, not-false, not_from_true}
-use Rattle.std.proofs.lemmas.List.Elements.{All-head, All-tail, All-weaker}
-use Rattle.mum_base.specs.declared.number.ChannelId.{ChannelId}
-use Rattle.mum_base.specs.declared.number.SessionId.{SessionId}
-use Rattle.mum_base.specs.declared.outcome.DenyType.{DenyType}
-use Rattle.mum_base.specs.declared.outcome.Reason.{Reason}
-use Rattle.mum_base.specs.declared.outcome.Reason.TheVariants.{NotThere}
-use Rattle.mum_base.specs.declared.perm.TheConstants.Perm.{WRITE}
-use Rattle.mum_base.specs.Codes.{deny_code, reason_code}
-use Rattle.mum_msg_rule.specs.declared.acl.Acl.{Acl as AclMessage}
-use Rattle.mum_msg_state.specs.declared.channel_state.ChannelState.{ChannelState}
-use Rattle.mum_policy.specs.Member.{Actor}
-use Rattle.mum_policy.specs.declared.policy.ChannelPolicy.{ChannelPolicy}
-use Rattle.mum_tree.specs.declared.channel.Row.{Row}
-use Rattle.mum_tree.specs.Refusals.{parent_of}
-use Rattle.mum_tree.specs.Rows.{is_there, number}
-use Rattle.mum_state.specs.declared.edit.Edit.{Edit}
-use Rattle.mum_state.specs.declared.edit.Edit.TheVariants.{SetAcl}
-use Rattle.mum_state.specs.declared.verdict.Verdict.{Verdict}
-use Rattle.mum_state.specs.declared.verdict.Verdict.TheVariants.{Accepted, Answer, Ignored, Lacks, Refused}
-use Rattle.mum_state.specs.Proper.{IsProper}
-use Rattle.mum_state.specs.State.{PolicyRow, StateValue, policy_of}
-use Rattle.mum_rules_tree.specs.declared.message.TreeMessage.{TreeMessage}
-use Rattle.mum_rules_tree.specs.declared.message.TreeMessage.TheVariants.{Acl, Remove, State}
-use Rattle.mum_rules_tree.specs.declared.needs.Lack.{Lack}
-use Rattle.mum_rules_tree.specs.Asked.{Command, channel, channel_or_root, command_of, is_named_there, is_query, names_there}
-use Rattle.mum_rules_tree.specs.Decision.{Case, Need, case_of, first_lack, first_standing, is_met, is_open, lack_of, way}
-use Rattle.mum_rules_tree.specs.Laws.{AllMet, GrantsWhereNothingStands, IgnoresForFirstReason, IsAcceptedOrAnswered, IsFirstStanding, NoneStands, RefusesForFirstLimit, WritersSetPolicies, needs_of}
-use Rattle.mum_rules_tree.specs.Limits.{limits}
-use Rattle.mum_rules_tree.specs.Needs.{need_to_rule, needs}
-use Rattle.mum_rules_tree.specs.Outcome.{answer_frame, answer_to_query, outcome}
-use Rattle.mum_rules_tree.specs.Reasons.{reasons}
-use Rattle.mum_rules_tree.specs.Verdict.{actor_named, tree_verdict}
-use Rattle.mum_rules_tree.proofs.Cleared.{all_off}
-use Rattle.mum_rules_tree.proofs.Firsts.{IsFound, all_met_where, first_found, none_stands, something_mapped, told}
+use Rattle.mum_rules_tree.proofs.Common.{◌≡◌, ℕ, ◌||◌, Bool, true, false, not, cond, eqb, List, [], ◌∷◌, ◌++◌, map, Option, Some, None, refl, ap, sym, ◌∙◌, subst, find, All, is_some, option_map, option_map_or, cond-false, not-false, not_from_true, All-head, All-tail, All-weaker, ChannelId, SessionId, DenyType, Reason, NotThere, WRITE, deny_code, reason_code, AclMessage, ChannelState, Actor, ChannelPolicy, Row, parent_of, is_there, number, Edit, SetAcl, Verdict, Accepted, Answer, Ignored, Lacks, Refused, IsProper, PolicyRow, StateValue, policy_of, TreeMessage, Acl, Remove, State, Lack, Command, channel, channel_or_root, command_of, is_named_there, is_query, names_there, Case, Need, case_of, first_lack, first_standing, is_met, is_open, lack_of, way, AllMet, GrantsWhereNothingStands, IgnoresForFirstReason, IsAcceptedOrAnswered, IsFirstStanding, NoneStands, RefusesForFirstLimit, WritersSetPolicies, needs_of, limits, need_to_rule, needs, answer_frame, answer_to_query, outcome, reasons, actor_named, tree_verdict}
+use Rattle.mum_rules_tree.proofs.{Cleared.all_off, Firsts.IsFound, Firsts.all_met_where, Firsts.first_found, Firsts.none_stands, Firsts.something_mapped, Firsts.told}
 
--- ---- what does not stand is not found
+-- ---- what does not apply is not found
 
 none_passes : {X : Type 0} (p : X → Bool) (xs : List X) → All (λ x. p x ≡ false) xs → find p xs ≡ None
 none_passes p [] all = refl
@@ -54,7 +18,7 @@ no_lack state needs met =
     (none_passes (λ wanted. not (is_met state wanted)) needs
     (All-weaker (λ wanted. is_met state wanted ≡ true) (λ wanted. not (is_met state wanted) ≡ false) (λ wanted on. not_from_true (is_met state wanted) on) needs met))
 
--- the first that stands
+-- the first that applies
 pub first_of : {Code : Type 0} (cases : List (Case Code)) (code : Code) → first_standing cases ≡ Some code → IsFirstStanding cases code
 first_of {Code} cases code some =
     let (one, found, is) = something_mapped (λ (one : Case Code). one.code) (find (λ one. one.stands) cases) code some in

@@ -1,28 +1,5 @@
 -- The first of a list, and what a verdict says of the tables.
-use Rattle.std.proofs.Common.{◌≡◌, Bool, true, false, not, cond, List, [], ◌∷◌, ◌++◌, Option, Some, None, refl, ap, sym, ◌∙◌, subst, ⊎_elim}
-use Rattle.std.specs.List.{find, All}
-use Rattle.std.specs.Option.{option_map, option_map_or}
-use Rattle.std.proofs.lemmas.Bool.{cases_Bool, not-false, not-true}
-use Rattle.std.proofs.lemmas.List.Elements.{All-cons, All-nil, All-weaker}
-use Rattle.mum_base.specs.declared.number.ChannelId.{ChannelId}
-use Rattle.mum_base.specs.declared.number.SessionId.{SessionId}
-use Rattle.mum_base.specs.declared.perm.Perm.{Perm}
-use Rattle.mum_policy.specs.declared.policy.ChannelPolicy.{ChannelPolicy}
-use Rattle.mum_state.specs.declared.edit.Edit.{Edit}
-use Rattle.mum_state.specs.declared.verdict.Verdict.{Verdict}
-use Rattle.mum_state.specs.declared.verdict.Verdict.TheVariants.{Accepted, Answer, Ignored, Lacks, Refused}
-use Rattle.mum_state.specs.State.{StateValue, policy_of}
-use Rattle.mum_base.specs.declared.outcome.DenyType.{DenyType}
-use Rattle.mum_rules_tree.specs.declared.needs.Lack.{Lack}
-use Rattle.mum_base.specs.declared.outcome.Reason.{Reason}
-use Rattle.mum_base.specs.declared.outcome.Reason.TheVariants.{NotThere}
-use Rattle.mum_rules_tree.specs.Asked.{Command, command_of}
-use Rattle.mum_base.specs.Codes.{deny_code, reason_code}
-use Rattle.mum_rules_tree.specs.Decision.{Case, Need, first_lack, first_standing, is_met, lack_of}
-use Rattle.mum_rules_tree.specs.Laws.{AcceptsWhereNothingStands, AllMet, IsFirstMissing, NamesFirstMissing, NoneStands, needs_of}
-use Rattle.mum_rules_tree.specs.Limits.{limits}
-use Rattle.mum_rules_tree.specs.Outcome.{answer_frame, outcome}
-use Rattle.mum_rules_tree.specs.Reasons.{reasons}
+use Rattle.mum_rules_tree.proofs.Common.{◌≡◌, Bool, true, false, not, cond, List, [], ◌∷◌, ◌++◌, Option, Some, None, refl, ap, sym, ◌∙◌, subst, ⊎_elim, find, All, option_map, option_map_or, cases_Bool, not-false, not-true, All-cons, All-nil, All-weaker, ChannelId, SessionId, Perm, ChannelPolicy, Edit, Verdict, Accepted, Answer, Ignored, Lacks, Refused, StateValue, policy_of, DenyType, Lack, Reason, NotThere, Command, command_of, deny_code, reason_code, Case, Need, first_lack, first_standing, is_met, lack_of, AcceptsWhereNothingStands, AllMet, IsFirstMissing, NamesFirstMissing, NoneStands, needs_of, limits, answer_frame, outcome, reasons}
 
 -- ---- the first of a list
 

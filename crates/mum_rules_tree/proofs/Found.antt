@@ -1,25 +1,5 @@
 -- Permissions that were found already, by the places of channels.
-use Rattle.std.proofs.Common.{◌≡◌, ◌≢◌, ℕ, ◌<◌, ◌≤◌, ◌||◌, not, Bool, true, false, cond, List, [], ◌∷◌, length, get_or, set, refl, sym, ap, subst, ◌∙◌, arith, Option, Some, None, Result, Ok, Err, unwrap_or, ⊎_elim}
-use Rattle.std.specs.Bool.{⊤}
-use Rattle.std.specs.List.{AllPairs}
-use Rattle.std.specs.Option.{option_map, option_map_or}
-use Rattle.std.proofs.lemmas.Bool.{cases_eq, cases_lt}
-use Rattle.std.proofs.lemmas.List.{get_or-set_other}
-use Rattle.std.proofs.lemmas.Option.{none-some}
-use Rattle.mum_base.specs.declared.number.ChannelId.{ChannelId}
-use Rattle.mum_base.specs.declared.perm.Perm.{Perm}
-use Rattle.mum_policy.specs.Member.{Actor}
-use Rattle.mum_tree.specs.declared.channel.Row.{Row}
-use Rattle.mum_tree.specs.Rows.{row_of}
-use Rattle.mum_tree.specs.State.{TreeState}
-use Rattle.mum_tree.proofs.Changed.{number_found}
-use Rattle.mum_tree.proofs.Closure.{row_stands}
-use Rattle.mum_tree.proofs.Limited.{placed_within}
-use Rattle.mum_tree.proofs.Start.{root_row}
-use Rattle.mum_state.specs.Proper.{IsProper}
-use Rattle.mum_state.specs.State.{StateValue}
-use Rattle.mum_rules_tree.specs.declared.needs.Lack.{Lack}
-use Rattle.mum_rules_tree.specs.Decision.{Need, all_met, is_open, lack_of, need, way, AreMet}
+use Rattle.mum_rules_tree.proofs.Common.{◌≡◌, ◌≢◌, ℕ, ◌<◌, ◌≤◌, ◌||◌, not, Bool, true, false, cond, List, [], ◌∷◌, length, get_or, set, refl, sym, ap, subst, ◌∙◌, arith, Option, Some, None, Result, Ok, Err, unwrap_or, ⊎_elim, ⊤, AllPairs, option_map, option_map_or, cases_eq, cases_lt, get_or-set_other, none-some, ChannelId, Perm, Actor, Row, row_of, TreeState, number_found, row_stands, placed_within, root_row, IsProper, StateValue, Lack, Need, all_met, is_open, lack_of, need, way, AreMet}
 
 -- ---- one need
 
@@ -61,7 +41,7 @@ row_at rows id place told = step (row_of rows id) refl told
           },
         )
 
--- the place that the tree of a state tells is that of the state
+-- the place that the tree of a state reports is that of the state
 pub placed_in : (state : StateValue) (tree : TreeState) (id : ChannelId) (told : Option ℕ) (place : ℕ)
     → tree ≡ state.tree → told ≡ option_map (λ row. row.place) (row_of tree.channels id) → told ≡ Some place
     → option_map (λ row. row.place) (row_of state.tree.channels id) ≡ Some place

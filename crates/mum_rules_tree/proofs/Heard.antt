@@ -1,28 +1,5 @@
 -- What is decided of a message that there is no reason to ignore.
-use Rattle.std.proofs.Common.{◌≡◌, ℕ, ◌||◌, Bool, true, false, not, cond, ltb, List, [], ◌∷◌, length, Option, Some, None, Result, Ok, Err, ap, sym, ◌∙◌, subst, ⊎_elim}
-use Rattle.std.specs.List.{find}
-use Rattle.std.specs.Option.{is_none, option_map_or}
-use Rattle.std.specs.Result.{IfOk}
-use Rattle.std.proofs.lemmas.Bool.{cases_Bool, eqb-true, not_from_true, or_from}
-use Rattle.mum_base.specs.declared.number.SessionId.{SessionId}
-use Rattle.mum_policy.specs.Member.{Actor}
-use Rattle.mum_users.specs.declared.user.User.{User}
-use Rattle.mum_users.specs.Sessions.{session_of}
-use Rattle.mum_users.specs.State.{has_number}
-use Rattle.mum_state.specs.declared.verdict.Verdict.{Verdict}
-use Rattle.mum_state.specs.declared.verdict.Verdict.TheVariants.{Ignored}
-use Rattle.mum_state.specs.Permissions.{actor_from}
-use Rattle.mum_state.specs.Proper.{IsProper}
-use Rattle.mum_state.specs.State.{StateValue}
-use Rattle.mum_rules_tree.specs.declared.message.TreeMessage.{TreeMessage}
-use Rattle.mum_base.specs.declared.outcome.Reason.{Reason}
-use Rattle.mum_base.specs.declared.outcome.Reason.TheVariants.{Gone, NotThere, TooLong}
-use Rattle.mum_rules_tree.specs.declared.reason.TheConstants.{COMMAND_LIMIT}
-use Rattle.mum_rules_tree.specs.Asked.{command_of, names_there, payload_of}
-use Rattle.mum_base.specs.Codes.{reason_code}
-use Rattle.mum_rules_tree.specs.Decision.{FitsWhereAccepted, case_of, first_standing}
-use Rattle.mum_rules_tree.specs.Reasons.{is_gone, reasons, takes_no_edits}
-use Rattle.mum_rules_tree.specs.Verdict.{actor_named, command_verdict, nobody, tree_verdict}
+use Rattle.mum_rules_tree.proofs.Common.{◌≡◌, ℕ, ◌||◌, Bool, true, false, not, cond, ltb, List, [], ◌∷◌, length, Option, Some, None, Result, Ok, Err, ap, sym, ◌∙◌, subst, ⊎_elim, find, is_none, option_map_or, IfOk, cases_Bool, eqb-true, not_from_true, or_from, SessionId, Actor, User, session_of, has_number, Verdict, Ignored, actor_from, IsProper, StateValue, TreeMessage, Reason, Gone, NotThere, TooLong, COMMAND_LIMIT, command_of, names_there, payload_of, reason_code, FitsWhereAccepted, case_of, first_standing, is_gone, reasons, takes_no_edits, actor_named, command_verdict, nobody, tree_verdict}
 use Rattle.mum_rules_tree.proofs.Accepted.{accepted_fits}
 
 pub found_passes : {X : Type 0} (p : X → Bool) (xs : List X) (x : X) → find p xs ≡ Some x → p x ≡ true

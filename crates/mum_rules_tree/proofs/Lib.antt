@@ -1,3 +1,5 @@
+mod Common
+pub mod Public
 pub mod Accepted
 pub mod ByCause
 pub mod Cleared

@@ -1,15 +1,5 @@
 -- Other channels among those that a message links and parts.
-use Rattle.std.proofs.Common.{◌≡◌, ℕ, ◌||◌, Bool, true, false, not, cond, List, [], ◌∷◌, ◌++◌, length, map, arith, refl, ap, ◌∙◌}
-use Rattle.std.specs.List.{filter, list_any}
-use Rattle.std.proofs.lemmas.Bool.{cond-false, cond-true, ne_eqb}
-use Rattle.std.proofs.lemmas.List.{map-append}
-use Rattle.mum_base.specs.declared.number.ChannelId.{ChannelId}
-use Rattle.mum_base.specs.declared.perm.TheConstants.Perm.{LINK_CHANNEL}
-use Rattle.mum_policy.specs.Member.{Actor}
-use Rattle.mum_state.specs.Kinds.{is_empty}
-use Rattle.mum_rules_tree.specs.Asked.{channel, is_other, others}
-use Rattle.mum_rules_tree.specs.Decision.{Need, need}
-use Rattle.mum_rules_tree.specs.Needs.{needs_to_link}
+use Rattle.mum_rules_tree.proofs.Common.{◌≡◌, ℕ, ◌||◌, Bool, true, false, not, cond, List, [], ◌∷◌, ◌++◌, length, map, arith, refl, ap, ◌∙◌, filter, list_any, cond-false, cond-true, ne_eqb, map-append, ChannelId, LINK_CHANNEL, Actor, is_empty, channel, is_other, others, Need, need, needs_to_link}
 
 not_empty : {X : Type 0} (x : X) (xs : List X) → is_empty (x ∷ xs) ≡ false
 not_empty x xs = ne_eqb (length (x ∷ xs)) 0 (λ e. absurd (omega arith))
@@ -31,14 +21,14 @@ or_assoc : (x y z : Bool) → (x || (y || z)) ≡ ((x || y) || z)
 or_assoc true y z = refl
 or_assoc false y z = refl
 
--- no other channel is linked or parted exactly where none is among the numbers
+-- no other channel is linked or unlinked exactly where none is among the numbers
 pub none_linked : (id : ChannelId) (adds removes : List ℕ) → is_empty (others id adds ++ others id removes) ≡ not (list_any (is_other id) adds || list_any (is_other id) removes)
 none_linked id [] removes = none_kept id removes
 none_linked id (number ∷ adds) removes =
     kept_at (is_other id number) number (filter (is_other id) adds) (list_any (is_other id) adds || list_any (is_other id) removes) (others id removes) (none_linked id adds removes)
     ∙ ap not (or_assoc (is_other id number) (list_any (is_other id) adds) (list_any (is_other id) removes))
 
--- the needs of links: on the channel, on those that are linked, on those that are parted
+-- the needs of links: on the channel, on those that are linked, on those that are unlinked
 pub linking : (who : Actor) (id : ChannelId) (adds removes : List ℕ) → (list_any (is_other id) adds || list_any (is_other id) removes) ≡ true → needs_to_link who id (others id adds ++ others id removes) ≡ need who LINK_CHANNEL id ∷ (map (need who LINK_CHANNEL) (others id adds) ++ map (need who LINK_CHANNEL) (others id removes))
 linking who id adds removes some =
     cond-false (is_empty (others id adds ++ others id removes)) [] (map (need who LINK_CHANNEL) (id ∷ (others id adds ++ others id removes))) (none_linked id adds removes ∙ ap not some)

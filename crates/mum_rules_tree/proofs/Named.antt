@@ -1,25 +1,6 @@
 -- What a ChannelState names is there: so is all that its edit names.
-use Rattle.std.proofs.Common.{◌≡◌, ℕ, ◌&&◌, ◌||◌, Bool, true, false, not, cond, eqb, List, [], ◌∷◌, map, Option, Some, None, refl, ap, ◌∙◌, subst, ⊎_elim}
-use Rattle.std.specs.List.{filter, find, list_all, list_any}
-use Rattle.std.specs.Option.{is_none, is_some, option_map, option_map_or, option_or}
-use Rattle.std.proofs.lemmas.Bool.{and_from, and_parts, cases_Bool, cond_both, eq-eqb, eqb-false}
-use Rattle.mum_base.specs.declared.number.ChannelId.{ChannelId}
-use Rattle.mum_msg_state.specs.declared.channel_state.ChannelState.{ChannelState}
-use Rattle.mum_tree.specs.declared.channel.Row.{Row}
-use Rattle.mum_tree.specs.Change.{parent_after}
-use Rattle.mum_tree.specs.Change.{names_there as change_names_there}
+use Rattle.mum_rules_tree.proofs.Common.{◌≡◌, ℕ, ◌&&◌, ◌||◌, Bool, true, false, not, cond, eqb, List, [], ◌∷◌, map, Option, Some, None, refl, ap, ◌∙◌, subst, ⊎_elim, filter, find, list_all, list_any, is_none, is_some, option_map, option_map_or, option_or, and_from, and_parts, cases_Bool, cond_both, eq-eqb, eqb-false, ChannelId, ChannelState, Row, parent_after, change_names_there, parent_of, is_there, row_of, TreeState, same_number, parent_there, some_row, the_root, holds_of_given, given, State, change_asked, channel, given_unless, is_named_there, is_number_there, is_other, names_there, new_parent, others}
 use Rattle.mum_tree.specs.Proper.{IsProper}
-use Rattle.mum_tree.specs.Refusals.{parent_of}
-use Rattle.mum_tree.specs.Rows.{is_there, row_of}
-use Rattle.mum_tree.specs.State.{TreeState}
-use Rattle.mum_tree.proofs.Closure.{same_number}
-use Rattle.mum_tree.proofs.Depths.{parent_there}
-use Rattle.mum_tree.proofs.Edits.{some_row}
-use Rattle.mum_tree.proofs.Upward.{the_root}
-use Rattle.mum_state.specs.Fits.{holds_of_given}
-use Rattle.mum_state.specs.Named.{given}
-use Rattle.mum_rules_tree.specs.declared.message.TreeMessage.TheVariants.{State}
-use Rattle.mum_rules_tree.specs.Asked.{change_asked, channel, given_unless, is_named_there, is_number_there, is_other, names_there, new_parent, others}
 
 -- somebody is found, so somebody is there
 pub some_found : {X : Type 0} (p : X → Bool) (xs : List X) → is_none (find p xs) ≡ false → list_any p xs ≡ true

@@ -1,15 +1,5 @@
 -- Needs one after another: the first that is not met is what is missing.
-use Rattle.std.proofs.Common.{◌≡◌, Bool, true, false, not, cond, List, [], ◌∷◌, ◌++◌, Option, Some, None, Result, Ok, Err, refl, ap, sym, ◌∙◌}
-use Rattle.std.specs.Bool.{⊤}
-use Rattle.std.specs.List.{find}
-use Rattle.std.specs.Option.{option_map, option_map_or}
-use Rattle.mum_state.specs.declared.verdict.Verdict.{Verdict}
-use Rattle.mum_state.specs.declared.verdict.Verdict.TheVariants.{Lacks, Refused}
-use Rattle.mum_state.specs.State.{StateValue}
-use Rattle.mum_rules_tree.specs.declared.needs.Lack.{Lack}
-use Rattle.mum_base.specs.declared.outcome.DenyType.{DenyType}
-use Rattle.mum_base.specs.Codes.{deny_code}
-use Rattle.mum_rules_tree.specs.Decision.{Case, Need, all_met, first_lack, first_standing, is_met, lack_of, unless_lacking, unless_refused}
+use Rattle.mum_rules_tree.proofs.Common.{◌≡◌, Bool, true, false, not, cond, List, [], ◌∷◌, ◌++◌, Option, Some, None, Result, Ok, Err, refl, ap, sym, ◌∙◌, ⊤, find, option_map, option_map_or, Verdict, Lacks, Refused, StateValue, Lack, DenyType, deny_code, Case, Need, all_met, first_lack, first_standing, is_met, lack_of, unless_lacking, unless_refused}
 
 -- what is answered where this need is the first that is not met
 abbrev answer : Option Need → Result ⊤ Lack
@@ -61,13 +51,13 @@ unmet_at (Some lack) verdict missing err = let same : lack ≡ missing = cc in a
 pub lacking : (state : StateValue) (needs : List Need) (verdict : Verdict) (missing : Lack) → all_met state needs ≡ Err missing → unless_lacking state needs verdict ≡ Lacks missing.perm missing.channel
 lacking state needs verdict missing err = unmet_at (first_lack state needs) verdict missing err
 
--- where nothing is missing, the first limit that stands refuses
+-- where nothing is missing, the first limit that applies refuses
 pub refused : (state : StateValue) (needs : List Need) (limits : List (Case DenyType)) (verdict : Verdict) (kind : DenyType) → all_met state needs ≡ Ok tt → first_standing limits ≡ Some kind → unless_lacking state needs (unless_refused limits verdict) ≡ Refused (deny_code kind)
 refused state needs limits verdict kind ok stands =
     met_at (first_lack state needs) (unless_refused limits verdict) ok
     ∙ ap (λ (found : Option DenyType). option_map_or (λ k. Refused (deny_code k)) found verdict) stands
 
--- where no limit stands either, it is what it asks
+-- where no limit applies either, it is what it asks
 pub passed : (state : StateValue) (needs : List Need) (limits : List (Case DenyType)) (verdict : Verdict) → all_met state needs ≡ Ok tt → first_standing limits ≡ None → unless_lacking state needs (unless_refused limits verdict) ≡ verdict
 passed state needs limits verdict ok none =
     met_at (first_lack state needs) (unless_refused limits verdict) ok

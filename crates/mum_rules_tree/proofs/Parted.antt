@@ -1,15 +1,5 @@
 -- Links that go make no channel overlinked.
-use Rattle.std.proofs.Common.{◌≡◌, ◌<◌, ◌≤◌, ◌&&◌, ◌||◌, Bool, true, false, not, eqb, leb, ltb, List, [], ◌∷◌, length, refl, arith, ⊎_elim}
-use Rattle.std.specs.List.{count_by, list_any}
-use Rattle.std.proofs.lemmas.Bool.{and_from, and_parts, both_ways, ltb-false, ltb-true, false_from_ne_true, or_cases, or_left, or_right, or_parts}
-use Rattle.mum_base.specs.declared.number.ChannelId.{ChannelId}
-use Rattle.mum_tree.specs.declared.channel.Row.{Row}
-use Rattle.mum_tree.specs.declared.links.TheConstants.{LINK_LIMIT}
-use Rattle.mum_base.specs.Channels.{is_among}
-use Rattle.mum_tree.specs.Change.{Change, is_new_partner, is_partner_after, overlinks}
-use Rattle.mum_tree.specs.State.{TreeState, are_linked, partners}
-use Rattle.mum_tree.proofs.Closure.{count_le_at}
-use Rattle.mum_rules_tree.specs.Limits.{without_parting}
+use Rattle.mum_rules_tree.proofs.Common.{◌≡◌, ◌<◌, ◌≤◌, ◌&&◌, ◌||◌, Bool, true, false, not, eqb, leb, ltb, List, [], ◌∷◌, length, refl, arith, ⊎_elim, count_by, list_any, and_from, and_parts, both_ways, ltb-false, ltb-true, false_from_ne_true, or_cases, or_left, or_right, or_parts, ChannelId, Row, CHANNEL_LINK_LIMIT, is_among, Change, is_new_partner, is_partner_after, overlinks, TreeState, are_linked, partners, count_le_at, without_parting}
 
 any_more : {X : Type 0} (p q : X → Bool) (xs : List X) → ((x : X) → p x ≡ true → q x ≡ true) → list_any p xs ≡ true → list_any q xs ≡ true
 any_more p q [] more on = on
@@ -37,15 +27,15 @@ parted tree id change free =
     let before = without_parting change in
     let after_count = count_by (λ (row : Row). is_partner_after tree id change row.channel.id) tree.channels in
     let before_count = count_by (λ (row : Row). is_partner_after tree id before row.channel.id) tree.channels in
-    let p : Row → Bool = λ row. is_new_partner tree id change row.channel.id && leb LINK_LIMIT (length (partners tree row.channel.id)) in
-    let q : Row → Bool = λ row. is_new_partner tree id before row.channel.id && leb LINK_LIMIT (length (partners tree row.channel.id)) in
-    let (few, none_full) = or_parts (ltb LINK_LIMIT before_count) (list_any q tree.channels) free in
+    let p : Row → Bool = λ row. is_new_partner tree id change row.channel.id && leb CHANNEL_LINK_LIMIT (length (partners tree row.channel.id)) in
+    let q : Row → Bool = λ row. is_new_partner tree id before row.channel.id && leb CHANNEL_LINK_LIMIT (length (partners tree row.channel.id)) in
+    let (few, none_full) = or_parts (ltb CHANNEL_LINK_LIMIT before_count) (list_any q tree.channels) free in
     let less : after_count ≤ before_count = count_le_at _ _ tree.channels (λ k d within. partner_before tree id change _) in
-    let bounded : before_count ≤ LINK_LIMIT = ltb-false LINK_LIMIT before_count few in
+    let bounded : before_count ≤ CHANNEL_LINK_LIMIT = ltb-false CHANNEL_LINK_LIMIT before_count few in
     false_from_ne_true (overlinks tree id change) (λ over.
     ⊎_elim
-    (λ (many : ltb LINK_LIMIT after_count ≡ true). let above : LINK_LIMIT < after_count = ltb-true LINK_LIMIT after_count many in absurd (omega arith))
+    (λ (many : ltb CHANNEL_LINK_LIMIT after_count ≡ true). let above : CHANNEL_LINK_LIMIT < after_count = ltb-true CHANNEL_LINK_LIMIT after_count many in absurd (omega arith))
     (λ (full : list_any p tree.channels ≡ true). both_ways (list_any q tree.channels) none_full (any_more p q tree.channels (λ row on.
-    let (new, crowded) = and_parts (is_new_partner tree id change row.channel.id) (leb LINK_LIMIT (length (partners tree row.channel.id))) on in
-    and_from (is_new_partner tree id before row.channel.id) (leb LINK_LIMIT (length (partners tree row.channel.id))) (new_before tree id change row.channel.id new) crowded) full))
-    (or_cases (ltb LINK_LIMIT after_count) (list_any p tree.channels) over))
+    let (new, crowded) = and_parts (is_new_partner tree id change row.channel.id) (leb CHANNEL_LINK_LIMIT (length (partners tree row.channel.id))) on in
+    and_from (is_new_partner tree id before row.channel.id) (leb CHANNEL_LINK_LIMIT (length (partners tree row.channel.id))) (new_before tree id change row.channel.id new) crowded) full))
+    (or_cases (ltb CHANNEL_LINK_LIMIT after_count) (list_any p tree.channels) over))

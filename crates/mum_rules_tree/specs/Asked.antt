@@ -1,21 +1,15 @@
 -- What the messages on channels ask: which command each is, whom it names, and what an edit of a channel changes.
 use Rattle.std.specs.Prelude.{ℕ, ◌==◌, ◌&&◌, ◌||◌, not, Bool, false, List, [], ◌++◌, map, filter, Option, Some, None, is_some, unwrap_or, if◌then◌else◌}
-use Rattle.std.specs.List.{list_all}
+use Rattle.std.specs.{List.list_all, Str.bytes_eq}
 use Rattle.std.specs.Option.{option_and_then, option_map, option_map_or, option_or}
-use Rattle.std.specs.Str.{bytes_eq}
-use Rattle.mum_base.specs.declared.number.ChannelId.{ChannelId}
-use Rattle.mum_base.specs.declared.number.TheConstants.ChannelId.{ROOT}
+use Rattle.mum_base.specs.declared.number.{ChannelId.ChannelId, TheConstants.ChannelId.ROOT}
 use Rattle.mum_fields.specs.Table.{spelled}
-use Rattle.mum_msg_rule.specs.declared.acl.Acl.{Acl as AclMessage}
-use Rattle.mum_msg_rule.specs.Messages.{acl}
+use Rattle.mum_tree.specs.{Change.Change, Refusals.name_of, Refusals.parent_of, Rows.is_there, State.TreeState}
 use Rattle.mum_msg_state.specs.declared.channel_state.ChannelState.{ChannelState}
 use Rattle.mum_msg_state.specs.Messages.{channel_remove, channel_state}
-use Rattle.mum_tree.specs.Change.{Change}
-use Rattle.mum_tree.specs.Refusals.{name_of, parent_of}
-use Rattle.mum_tree.specs.Rows.{is_there}
-use Rattle.mum_tree.specs.State.{TreeState}
-use Rattle.mum_state.specs.Fits.{holds_of_given}
-use Rattle.mum_state.specs.Parts.{channel_parts}
+use Rattle.mum_msg_rule.specs.declared.acl.Acl.{Acl as AclMessage}
+use Rattle.mum_msg_rule.specs.Messages.{acl}
+use Rattle.mum_state.specs.{Fits.holds_of_given, Parts.channel_parts}
 use Rattle.mum_rules_tree.specs.declared.message.TreeMessage.{TreeMessage}
 use Rattle.mum_rules_tree.specs.declared.message.TreeMessage.TheVariants.{State, Remove, Acl}
 
@@ -40,12 +34,14 @@ is_query message = unwrap_or message.query false
 
 -- a ChannelState without a channel makes one
 abbrev pub command_of : TreeMessage → Command
-command_of (State message) = option_map_or (λ number. Command.edit (channel number) message) message.channel_id (Command.make message)
+command_of (State message) =
+    option_map_or (λ number. Command.edit (channel number) message) message.channel_id (Command.make message)
 command_of (Remove message) = Command.remove (channel_or_root message.channel_id)
 command_of (Acl message) =
-    if is_query message then Command.query (channel_or_root message.channel_id) else Command.set (channel_or_root message.channel_id) message
+    if is_query message then Command.query (channel_or_root message.channel_id) else Command.set
+    (channel_or_root message.channel_id) message
 
--- the payload of the message as this server spells it
+-- the payload of the message as this server encodes it
 unfoldable pub payload_of : TreeMessage → List ℕ
 payload_of (State message) = spelled channel_state message
 payload_of (Remove message) = spelled channel_remove message
@@ -95,7 +91,8 @@ new_name tree id message = given_unless (λ name. bytes_eq name (name_of tree id
 
 -- nor is a parent that is the present one
 abbrev pub new_parent : TreeState → ChannelId → ChannelState → Option ChannelId
-new_parent tree id message = given_unless (λ parent. parent.0 == (parent_of tree id).0) (option_map channel message.parent)
+new_parent tree id message =
+    given_unless (λ parent. parent.0 == (parent_of tree id).0) (option_map channel message.parent)
 
 abbrev pub is_other : ChannelId → ℕ → Bool
 is_other id number = not (number == id.0)
@@ -104,7 +101,7 @@ is_other id number = not (number == id.0)
 abbrev pub others : ChannelId → List ℕ → List ChannelId
 others id numbers = map channel (filter (is_other id) numbers)
 
--- the channels that are linked to it or parted from it, in message order
+-- the channels that are linked to it or unlinked from it, in message order
 abbrev pub linked_others : ChannelId → ChannelState → List ChannelId
 linked_others id message = others id message.links_add ++ others id message.links_remove
 
@@ -114,5 +111,6 @@ describes message = is_some message.name || is_some message.description || is_so
 
 abbrev pub change_asked : TreeState → ChannelId → ChannelState → Change
 change_asked tree id message =
-    channel_parts (new_name tree id message) (new_parent tree id message) message.description message.position message.max_users
+    channel_parts (new_name tree id message)
+    (new_parent tree id message) message.description message.position message.max_users
     (others id message.links_add) (others id message.links_remove)

@@ -1,9 +1,9 @@
 -- For what a command is denied that the tree of channels would refuse.
 use Rattle.std.specs.Prelude.{Bool, true, false, Option, Some, None}
-use Rattle.mum_tree.specs.declared.fault.TreeFault.{TreeFault}
-use Rattle.mum_tree.specs.declared.fault.TreeFault.TheVariants.{NoChannel, SameName, UnderItself, Nesting, Count, RootFixed, TemporaryParent, LinkCount, OutOfMemory}
 use Rattle.mum_base.specs.declared.outcome.DenyType.{DenyType}
 use Rattle.mum_base.specs.declared.outcome.DenyType.TheVariants.{Text, ChannelName, TemporaryChannel, NestingLimit, ChannelCountLimit}
+use Rattle.mum_tree.specs.declared.fault.TreeFault.{TreeFault}
+use Rattle.mum_tree.specs.declared.fault.TreeFault.TheVariants.{NoChannel, SameName, UnderItself, Nesting, Count, RootFixed, TemporaryParent, LinkCount, OutOfMemory}
 
 -- for what a command is denied that the tree would refuse; no decision is about a channel that is not there
 abbrev pub deny_type_of : TreeFault → DenyType

@@ -1,25 +1,19 @@
--- How a command is decided: by reasons to ignore it, then by what it needs, then by its limits. The first that stands
+-- How a command is decided: by reasons to ignore it, then by what it needs, then by its limits. The first that applies
 -- decides.
 use Rattle.std.specs.Prelude.{◌||◌, not, Bool, false, List, [], find, slice_index_or, Option, Result, Ok, Err, ⊤, IsTrue}
-use Rattle.std.specs.List.{All, list_any}
-use Rattle.std.specs.Option.{option_map, option_map_or}
-use Rattle.mum_base.specs.declared.number.ChannelId.{ChannelId}
-use Rattle.mum_base.specs.declared.perm.Perm.{Perm}
-use Rattle.mum_policy.specs.Member.{Actor}
-use Rattle.mum_policy.specs.Walk.{holds}
+use Rattle.std.specs.{List.All, List.list_any, Option.option_map, Option.option_map_or}
+use Rattle.mum_base.specs.declared.{number.ChannelId.ChannelId, perm.Perm.Perm, outcome.DenyType.DenyType}
+use Rattle.mum_base.specs.declared.outcome.Reason.{Reason}
+use Rattle.mum_base.specs.Codes.{deny_code, reason_code}
+use Rattle.mum_policy.specs.{Member.Actor, Walk.holds}
 use Rattle.mum_state.specs.declared.verdict.Verdict.{Verdict}
 use Rattle.mum_state.specs.declared.verdict.Verdict.TheVariants.{Accepted, Lacks, Refused, Ignored}
-use Rattle.mum_state.specs.Fits.{fits}
-use Rattle.mum_state.specs.Permissions.{granted_where_there}
-use Rattle.mum_state.specs.State.{StateValue}
-use Rattle.mum_base.specs.Codes.{deny_code, reason_code}
-use Rattle.mum_base.specs.declared.outcome.DenyType.{DenyType}
+use Rattle.mum_state.specs.{Fits.fits, Permissions.granted_where_there, State.StateValue}
 use Rattle.mum_rules_tree.specs.declared.needs.Lack.{Lack}
-use Rattle.mum_base.specs.declared.outcome.Reason.{Reason}
 
 -- ---- reasons and limits
 
--- a reason to ignore a command or a limit of it, and whether it stands
+-- a reason to ignore a command or a limit of it, and whether it applies
 pub record Case (Code : Type 0) : Type 0 where
   pub code : Code
   pub stands : Bool
@@ -27,13 +21,13 @@ pub record Case (Code : Type 0) : Type 0 where
 abbrev pub case_of : {Code : Type 0} → Code → Bool → Case Code
 case_of code stands = record { code = code; stands = stands }
 
--- the first that stands
+-- the first that applies
 abbrev pub first_standing : {Code : Type 0} → List (Case Code) → Option Code
 first_standing cases = option_map (λ one. one.code) (find (λ one. one.stands) cases)
 
 -- ---- needs
 
--- a way to meet a need: whoever asks has the permission in the channel
+-- a way to meet a need: the actor has the permission in the channel
 pub record Way : Type 0 where
   pub who : Actor
   pub perm : Perm
@@ -69,17 +63,20 @@ first_lack state needs = option_map lack_of (find (λ wanted. not (is_met state 
 abbrev pub all_met : StateValue → List Need → Result ⊤ Lack
 all_met state needs = option_map_or (λ lack. Err lack) (first_lack state needs) (Ok tt)
 
--- where the place of a channel is marked, whoever asks has the permission there
+-- where the place of a channel is marked, the actor has the permission there
 abbrev pub AreMet : StateValue → Actor → Perm → List Bool → Type 0
-AreMet state who perm marks = All (λ row. IsTrue (slice_index_or marks row.place false) → IsTrue (is_open state (way who perm row.channel.id))) state.tree.channels
+AreMet state who perm marks =
+    All (λ row. IsTrue (slice_index_or marks row.place false)
+    → IsTrue (is_open state (way who perm row.channel.id))) state.tree.channels
 
--- ---- the first that stands decides
+-- ---- the first that applies decides
 
 abbrev pub unless_ignored : List (Case Reason) → Verdict → Verdict
 unless_ignored reasons verdict = option_map_or (λ reason. Ignored (reason_code reason)) (first_standing reasons) verdict
 
 abbrev pub unless_lacking : StateValue → List Need → Verdict → Verdict
-unless_lacking state needs verdict = option_map_or (λ lack. Lacks lack.perm lack.channel) (first_lack state needs) verdict
+unless_lacking state needs verdict =
+    option_map_or (λ lack. Lacks lack.perm lack.channel) (first_lack state needs) verdict
 
 abbrev pub unless_refused : List (Case DenyType) → Verdict → Verdict
 unless_refused limits verdict = option_map_or (λ kind. Refused (deny_code kind)) (first_standing limits) verdict

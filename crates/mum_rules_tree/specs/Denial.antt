@@ -1,20 +1,17 @@
--- The frames that tell of denials.
+-- The frames that report denials.
 use Rattle.std.specs.Prelude.{ℕ, ◌==◌, Option, Some, None, List, codes, if◌then◌else◌}
 use Rattle.std.specs.Option.{option_map}
-use Rattle.mum_base.specs.declared.number.ChannelId.{ChannelId}
-use Rattle.mum_base.specs.declared.number.SessionId.{SessionId}
-use Rattle.mum_base.specs.declared.perm.Perm.{Perm}
+use Rattle.mum_base.specs.declared.{number.ChannelId.ChannelId, number.SessionId.SessionId, perm.Perm.Perm}
+use Rattle.mum_base.specs.declared.outcome.DenyType.TheVariants.{Permission, Text}
+use Rattle.mum_base.specs.Codes.{deny_code}
+use Rattle.mum_frame.specs.declared.{frame.Frame.Frame, kind.TheConstants.PERMISSION_DENIED, kind.TheConstants.REJECT}
 use Rattle.mum_fields.specs.Table.{spelled}
-use Rattle.mum_frame.specs.declared.frame.Frame.{Frame}
-use Rattle.mum_frame.specs.declared.kind.TheConstants.{PERMISSION_DENIED, REJECT}
-use Rattle.mum_msg_rule.specs.declared.permission_denied.PermissionDenied.{PermissionDenied}
-use Rattle.mum_msg_rule.specs.Messages.{permission_denied}
 use Rattle.mum_msg_state.specs.declared.reject.Reject.{Reject}
 use Rattle.mum_msg_state.specs.Messages.{reject}
+use Rattle.mum_msg_rule.specs.declared.permission_denied.PermissionDenied.{PermissionDenied}
+use Rattle.mum_msg_rule.specs.Messages.{permission_denied}
 use Rattle.mum_state.specs.declared.verdict.Verdict.{Verdict}
 use Rattle.mum_state.specs.declared.verdict.Verdict.TheVariants.{Lacks, Refused, Rejected}
-use Rattle.mum_base.specs.Codes.{deny_code}
-use Rattle.mum_base.specs.declared.outcome.DenyType.TheVariants.{Permission, Text}
 
 -- the permission and the channel where it is missing
 abbrev pub denial_of_lack : Option SessionId → Perm → ChannelId → PermissionDenied
@@ -50,7 +47,7 @@ denied_frame message = record { kind = PERMISSION_DENIED; payload = spelled perm
 unfoldable pub rejected_frame : Reject → Frame
 rejected_frame message = record { kind = REJECT; payload = spelled reject message }
 
--- what the actor is told of a verdict that denies
+-- what the actor is sent of a verdict that denies
 abbrev pub denial : Option SessionId → Verdict → Option Frame
 denial actor (Lacks perm channel) = Some (denied_frame (denial_of_lack actor perm channel))
 denial actor (Refused kind) = Some (denied_frame (denial_of_limit actor kind))

@@ -1,36 +1,25 @@
 -- What a verdict says of the tables, in words of its own.
 use Rattle.std.specs.Prelude.{◌≡◌, ℕ, ◌||◌, true, false, List, ◌∷◌, ◌++◌, Option, Some, ⊤, IsTrue}
 use Rattle.std.specs.List.{All}
-use Rattle.mum_base.specs.declared.number.ChannelId.{ChannelId}
-use Rattle.mum_base.specs.declared.number.SessionId.{SessionId}
-use Rattle.mum_base.specs.declared.outcome.DenyType.{DenyType}
-use Rattle.mum_base.specs.declared.outcome.Reason.{Reason}
-use Rattle.mum_base.specs.declared.perm.Perm.{Perm}
-use Rattle.mum_base.specs.declared.perm.TheConstants.Perm.{WRITE}
+use Rattle.mum_base.specs.declared.{number.ChannelId.ChannelId, number.SessionId.SessionId, outcome.DenyType.DenyType}
+use Rattle.mum_base.specs.declared.{outcome.Reason.Reason, perm.Perm.Perm, perm.TheConstants.Perm.WRITE}
 use Rattle.mum_base.specs.Codes.{deny_code, reason_code}
 use Rattle.mum_frame.specs.declared.frame.Frame.{Frame}
 use Rattle.mum_policy.specs.declared.policy.ChannelPolicy.{ChannelPolicy}
 use Rattle.mum_tree.specs.Refusals.{parent_of}
-use Rattle.mum_state.specs.declared.verdict.Verdict.{Verdict}
+use Rattle.mum_state.specs.declared.{verdict.Verdict.Verdict, edit.Edit.Edit, edit.Edit.TheVariants.SetAcl}
 use Rattle.mum_state.specs.declared.verdict.Verdict.TheVariants.{Accepted, Answer, Ignored, Lacks, Refused}
-use Rattle.mum_state.specs.declared.edit.Edit.{Edit}
-use Rattle.mum_state.specs.declared.edit.Edit.TheVariants.{SetAcl}
-use Rattle.mum_state.specs.Proper.{IsProper}
-use Rattle.mum_state.specs.State.{StateValue}
+use Rattle.mum_state.specs.{Proper.IsProper, State.StateValue}
 use Rattle.mum_rules_tree.specs.declared.message.TreeMessage.{TreeMessage}
-use Rattle.mum_rules_tree.specs.Asked.{command_of}
-use Rattle.mum_rules_tree.specs.Decision.{Case, Need, case_of, is_met, is_open, way}
-use Rattle.mum_rules_tree.specs.Denial.{denial}
-use Rattle.mum_rules_tree.specs.Limits.{limits}
-use Rattle.mum_rules_tree.specs.Needs.{needs}
-use Rattle.mum_rules_tree.specs.Reasons.{reasons}
+use Rattle.mum_rules_tree.specs.{Asked.command_of, Denial.denial, Limits.limits, Needs.needs, Reasons.reasons}
 use Rattle.mum_rules_tree.specs.Verdict.{actor_named, tree_verdict}
+use Rattle.mum_rules_tree.specs.Decision.{Case, Need, case_of, is_met, is_open, way}
 
--- what this message needs, and its limits, for whoever asks
+-- what this message needs, and its limits, for the actor
 abbrev pub needs_of : StateValue → SessionId → TreeMessage → List Need
 needs_of state actor message = needs state.tree (actor_named state actor) (command_of message)
 
--- none of these stands
+-- none of these applies
 abbrev pub NoneStands : {Code : Type 0} → List (Case Code) → Type 0
 NoneStands cases = All (λ one. one.stands ≡ false) cases
 
@@ -61,9 +50,10 @@ abbrev pub AcceptsWhereNothingStands : Type 0
 AcceptsWhereNothingStands =
     (state : StateValue) (actor : SessionId) (message : TreeMessage) (edit : Edit)
     → tree_verdict state actor message ≡ Accepted edit
-    → NoneStands (reasons state actor message) × AllMet state (needs_of state actor message) × NoneStands (limits state (command_of message))
+    → NoneStands (reasons state actor message) × AllMet state (needs_of state actor message)
+    × NoneStands (limits state (command_of message))
 
--- the first of these that stands has this code
+-- the first of these that applies has this code
 pub record IsFirstStanding {Code : Type 0} (cases : List (Case Code)) (code : Code) : Type 0 where
   pub before : List (Case Code)
   pub after : List (Case Code)
@@ -80,7 +70,8 @@ IsAcceptedOrAnswered verdict = ⊥
 abbrev pub GrantsWhereNothingStands : Type 0
 GrantsWhereNothingStands =
     (state : StateValue) (actor : SessionId) (message : TreeMessage) → IsProper state
-    → NoneStands (reasons state actor message) → AllMet state (needs_of state actor message) → NoneStands (limits state (command_of message))
+    → NoneStands (reasons state actor message) → AllMet state (needs_of state actor message)
+    → NoneStands (limits state (command_of message))
     → IsAcceptedOrAnswered (tree_verdict state actor message)
 
 -- a message is ignored for the first reason that applies
@@ -107,7 +98,9 @@ DenialsAreNoEdits =
 -- a policy is set only for a session that has Write on the channel or on its parent
 abbrev pub WritersSetPolicies : Type 0
 WritersSetPolicies =
-    (state : StateValue) (actor : SessionId) (message : TreeMessage) (channel : ChannelId) (by : Option SessionId) (policy : ChannelPolicy)
+    (state : StateValue) (actor : SessionId) (message : TreeMessage) (channel : ChannelId) (by : Option SessionId)
+    (policy : ChannelPolicy)
     → tree_verdict state actor message ≡ Accepted (SetAcl channel by policy)
     → (by ≡ Some actor)
-    × IsTrue (is_open state (way (actor_named state actor) WRITE channel) || is_open state (way (actor_named state actor) WRITE (parent_of state.tree channel)))
+    × IsTrue (is_open state (way (actor_named state actor) WRITE channel)
+    || is_open state (way (actor_named state actor) WRITE (parent_of state.tree channel)))

@@ -1,32 +1,25 @@
 -- The limits of each command on channels, in order, each with the type of its denial.
 use Rattle.std.specs.Prelude.{ℕ, ◌&&◌, ◌||◌, not, nat_le, Bool, List, [], ◌∷◌, length, map, Option, Some, is_none, unwrap_or, if◌then◌else◌}
-use Rattle.std.specs.List.{list_all, list_any}
-use Rattle.std.specs.Option.{option_map}
-use Rattle.mum_base.specs.declared.number.ChannelId.{ChannelId}
-use Rattle.mum_base.specs.declared.number.TheConstants.ChannelId.{ROOT}
-use Rattle.mum_policy.specs.declared.policy.ChannelPolicy.{ChannelPolicy}
-use Rattle.mum_policy.specs.Limits.{is_large_policy}
-use Rattle.mum_tree.specs.declared.channel.TheConstants.{PATH_LIMIT}
-use Rattle.mum_tree.specs.declared.fault.TreeFault.{TreeFault}
-use Rattle.mum_tree.specs.Change.{Change, name_after, overlinks, parent_after, renames_or_moves}
-use Rattle.mum_tree.specs.Refusals.{is_full}
-use Rattle.mum_tree.specs.Rows.{is_below, is_root, is_taken, is_temporary, nests, path}
-use Rattle.mum_tree.specs.State.{TreeState, next_number}
-use Rattle.mum_state.specs.Fits.{holds_of_given}
-use Rattle.mum_state.specs.Proper.{is_name, is_text}
-use Rattle.mum_state.specs.State.{StateValue}
-use Rattle.mum_rules_tree.specs.Asked.{Command, change_asked, parent_of_new, text_or_empty}
-use Rattle.mum_rules_tree.specs.Codes.{deny_type_of, is_of_links, is_of_root}
-use Rattle.mum_rules_tree.specs.Decision.{Case, case_of}
-use Rattle.mum_rules_tree.specs.Policy.{has_twice, policy_asked}
+use Rattle.std.specs.{List.list_all, List.list_any, Option.option_map}
+use Rattle.mum_base.specs.declared.number.{ChannelId.ChannelId, TheConstants.ChannelId.ROOT}
 use Rattle.mum_base.specs.declared.outcome.DenyType.{DenyType}
 use Rattle.mum_base.specs.declared.outcome.DenyType.TheVariants.{ChannelCountLimit, ChannelName, NestingLimit, TemporaryChannel, Text, TextTooLong}
+use Rattle.mum_policy.specs.declared.policy.ChannelPolicy.{ChannelPolicy}
+use Rattle.mum_policy.specs.Limits.{is_large_policy}
+use Rattle.mum_tree.specs.declared.{channel.TheConstants.PATH_LIMIT, fault.TreeFault.TreeFault}
+use Rattle.mum_tree.specs.Change.{Change, name_after, overlinks, parent_after, renames_or_moves}
+use Rattle.mum_tree.specs.{Refusals.is_full, State.TreeState, State.next_number}
+use Rattle.mum_tree.specs.Rows.{is_below, is_root, is_taken, is_temporary, nests, path}
+use Rattle.mum_state.specs.{Fits.holds_of_given, Proper.is_name, Proper.is_text, State.StateValue}
+use Rattle.mum_rules_tree.specs.Asked.{Command, change_asked, parent_of_new, text_or_empty}
+use Rattle.mum_rules_tree.specs.Codes.{deny_type_of, is_of_links, is_of_root}
+use Rattle.mum_rules_tree.specs.{Decision.Case, Decision.case_of, Policy.has_twice, Policy.policy_asked}
 
 -- the number of a new channel; where none is left, that of the root, which is the child of none
 abbrev pub new_number : TreeState → ChannelId
 new_number tree = unwrap_or (next_number tree) ROOT
 
--- as many channels stand as there can be, or no number is left for a new one
+-- there are as many channels as there can be, or no number is left for a new one
 abbrev pub takes_no_channels : TreeState → Bool
 takes_no_channels tree = is_full tree || is_none (next_number tree)
 
@@ -51,7 +44,8 @@ limits_of_change tree id change =
     let parent : ChannelId = parent_after tree id change in
     let renamed_or_moved : Bool = renames_or_moves tree id change in
     case_of Text (renamed_or_moved && is_root id)
-    ∷ case_of ChannelName (not (holds_of_given is_name change.name) || (renamed_or_moved && is_taken tree.channels parent id name))
+    ∷ case_of ChannelName
+    (not (holds_of_given is_name change.name) || (renamed_or_moved && is_taken tree.channels parent id name))
     ∷ case_of Text (renamed_or_moved && is_below tree.channels id parent)
     ∷ case_of TemporaryChannel (renamed_or_moved && is_temporary tree.channels parent)
     ∷ case_of NestingLimit (renamed_or_moved && list_any (nests tree.channels id parent) tree.channels)

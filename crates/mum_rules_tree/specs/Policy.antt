@@ -1,20 +1,11 @@
--- The policy that an ACL message sets, and the message that tells of one.
+-- The policy that an ACL message sets, and the message that reports one.
 use Rattle.std.specs.Prelude.{ℕ, ◌||◌, not, Bool, true, false, List, [], ◌∷◌, map, filter, bit_and, Option, Some, None, unwrap_or}
-use Rattle.std.specs.List.{list_any}
-use Rattle.std.specs.Option.{option_map_or}
-use Rattle.std.specs.Str.{bytes_eq}
-use Rattle.mum_base.specs.declared.number.AccountId.{AccountId}
-use Rattle.mum_base.specs.declared.number.ChannelId.{ChannelId}
-use Rattle.mum_base.specs.declared.perm.Perm.{Perm}
+use Rattle.std.specs.{List.list_any, Option.option_map_or, Str.bytes_eq}
+use Rattle.mum_base.specs.declared.{number.AccountId.AccountId, number.ChannelId.ChannelId, perm.Perm.Perm}
 use Rattle.mum_base.specs.declared.perm.TheConstants.Perm.{ALL}
-use Rattle.mum_msg_rule.specs.declared.acl.Acl.{Acl}
-use Rattle.mum_msg_rule.specs.declared.acl_group.AclGroup.{AclGroup}
-use Rattle.mum_msg_rule.specs.declared.acl_line.AclLine.{AclLine}
-use Rattle.mum_policy.specs.declared.policy.AclEntry.{AclEntry}
-use Rattle.mum_policy.specs.declared.policy.ChannelPolicy.{ChannelPolicy}
-use Rattle.mum_policy.specs.declared.policy.Group.{Group as GroupRow}
-use Rattle.mum_policy.specs.declared.policy.Whom.{Whom}
-use Rattle.mum_policy.specs.declared.policy.Whom.TheVariants.{Account, Group}
+use Rattle.mum_policy.specs.declared.policy.{AclEntry.AclEntry, ChannelPolicy.ChannelPolicy, Group.Group as GroupRow}
+use Rattle.mum_policy.specs.declared.policy.Whom.{Whom, TheVariants.Account, TheVariants.Group}
+use Rattle.mum_msg_rule.specs.declared.{acl.Acl.Acl, acl_group.AclGroup.AclGroup, acl_line.AclLine.AclLine}
 use Rattle.mum_rules_tree.specs.Asked.{text_or_empty}
 
 -- ---- what is set
@@ -71,7 +62,7 @@ abbrev pub has_twice : List (List ℕ) → Bool
 has_twice [] = false
 has_twice (name ∷ names) = list_any (bytes_eq name) names || has_twice names
 
--- ---- what is told
+-- ---- what is reported
 
 abbrev pub numbers : List AccountId → List ℕ
 numbers listed = map (λ one. one.0) listed

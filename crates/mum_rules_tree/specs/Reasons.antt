@@ -1,15 +1,12 @@
 -- Why a message on channels is ignored.
 use Rattle.std.specs.Prelude.{◌||◌, not, nat_le, nat_lt, Bool, List, [], ◌∷◌, length, is_none}
-use Rattle.mum_base.specs.declared.number.SessionId.{SessionId}
+use Rattle.mum_base.specs.declared.{number.SessionId.SessionId, outcome.Reason.Reason}
+use Rattle.mum_base.specs.declared.outcome.Reason.TheVariants.{Gone, TooLong, NotThere}
 use Rattle.mum_users.specs.Sessions.{session_of}
 use Rattle.mum_state.specs.declared.count.TheConstants.{EDIT_LIMIT}
 use Rattle.mum_state.specs.State.{StateValue}
-use Rattle.mum_rules_tree.specs.Asked.{names_there, payload_of}
-use Rattle.mum_rules_tree.specs.Decision.{Case, case_of}
-use Rattle.mum_rules_tree.specs.declared.message.TreeMessage.{TreeMessage}
-use Rattle.mum_base.specs.declared.outcome.Reason.{Reason}
-use Rattle.mum_base.specs.declared.outcome.Reason.TheVariants.{Gone, TooLong, NotThere}
-use Rattle.mum_rules_tree.specs.declared.reason.TheConstants.{COMMAND_LIMIT}
+use Rattle.mum_rules_tree.specs.{Asked.names_there, Asked.payload_of, Decision.Case, Decision.case_of}
+use Rattle.mum_rules_tree.specs.declared.{message.TreeMessage.TreeMessage, reason.TheConstants.COMMAND_LIMIT}
 
 abbrev pub is_gone : StateValue → SessionId → Bool
 is_gone state session = is_none (session_of state.roster session)

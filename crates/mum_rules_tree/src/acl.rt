@@ -18,7 +18,7 @@ use mum_policy::{Policies, Who};
 use mum_state::{Edit, State, Verdict};
 use std::alloc::Global;
 
-/// Write on the channel or on its parent. A denial names the channel.
+// Write on the channel or on its parent. A denial names the channel.
 fn need_to_rule(state: &State, who: &Who<'_>, id: ChannelId) -> Result<(), Lack>
     ensures { result
         ≡ all_met state.now (need_to_rule state.now.tree (actor_of who.now) id ∷ []) }
@@ -44,7 +44,7 @@ fn answer_to_query(alloc: Global, state: &State, id: ChannelId) -> Result<Verdic
     }
 }
 
-/// What is decided of a query.
+// What is decided of a query.
 pub(crate) fn decide_query(
     alloc: Global,
     state: &State,
@@ -60,7 +60,7 @@ pub(crate) fn decide_query(
     answer_to_query(alloc, state, id)
 }
 
-/// What is decided of another policy.
+// What is decided of another policy.
 pub(crate) fn decide_policy(
     alloc: Global,
     state: &State,

@@ -1,4 +1,4 @@
-//! The ACL message that tells of a channel's policy.
+//! The ACL message that reports a channel's policy.
 
 ghost use Rattle.std.specs.Prelude.{◌≡◌, IfOk, map};
 ghost use Rattle.mum_rules_tree.specs.Outcome.{answer_frame};
@@ -87,7 +87,7 @@ fn lines_told(alloc: Global, entries: &[AclEntry]) -> Result<Items<AclLine>, Out
     Ok(Items::from_vec(told))
 }
 
-/// The ACL message that tells of the policy of channel `id`: its own groups and entries, none inherited.
+/// The ACL message that reports the policy of channel `id`: its own groups and entries, none inherited.
 pub fn acl_told(alloc: Global, id: ChannelId, policy: &ChannelPolicy) -> Result<Acl, OutOfMemory>
     ensures { IfOk result (λ told. told ≡ acl_told id policy.now) }
 {
@@ -100,7 +100,7 @@ pub fn acl_told(alloc: Global, id: ChannelId, policy: &ChannelPolicy) -> Result<
     })
 }
 
-/// The frame that answers a query for a channel's policy.
+// The frame that answers a query for a channel's policy.
 pub(crate) fn answer_frame(
     alloc: Global,
     id: ChannelId,

@@ -46,7 +46,7 @@ pub fn are_there(tree: &Tree, numbers: &[u32]) -> bool
         .all(|number| tree.is_there(ChannelId(*number)))
 }
 
-/// The name of a channel, or an empty one where it is not there.
+// The name of a channel, or an empty one where it is not there.
 pub(crate) fn name_of(tree: &Tree, id: ChannelId) -> &str
     ensures { result.now ≡ name_of tree.now id }
 {
@@ -56,7 +56,7 @@ pub(crate) fn name_of(tree: &Tree, id: ChannelId) -> &str
     }
 }
 
-/// The channel above this one; the root, or one that is not there, is its own.
+// The channel above this one; the root, or one that is not there, is its own.
 pub(crate) fn parent_of(tree: &Tree, id: ChannelId) -> ChannelId
     ensures { result ≡ parent_of tree.now id }
 {
@@ -66,7 +66,7 @@ pub(crate) fn parent_of(tree: &Tree, id: ChannelId) -> ChannelId
     }
 }
 
-/// The number of a new channel, or that of the root where none is left.
+// The number of a new channel, or that of the root where none is left.
 pub(crate) fn new_number(tree: &Tree) -> ChannelId
     ensures { result ≡ new_number tree.now }
 {

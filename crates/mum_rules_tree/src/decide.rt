@@ -22,7 +22,7 @@ use mum_state::{State, Verdict, home_of, who_is};
 use mum_tree::Tree;
 use std::alloc::Global;
 
-// How many bytes the payload of a message has as this server spells it, or 2^64 - 1 where they are more.
+// How many bytes the payload of a message has as this server encodes it, or 2^64 - 1 where they are more.
 fn payload_length(message: &TreeMessage) -> u64
     ensures { result ≡ cut (length (payload_of message.now)) }
 {
@@ -33,14 +33,14 @@ fn payload_length(message: &TreeMessage) -> u64
     }
 }
 
-/// Whether the payload of a message, as this server spells it, is above the limit of commands.
+// Whether the payload of a message, as this server encodes it, is above the limit of commands.
 fn is_too_long(message: &TreeMessage) -> bool
     ensures { result ≡ nat_lt COMMAND_LIMIT (length (payload_of message.now)) }
 {
     payload_length(message) > COMMAND_LIMIT as u64
 }
 
-/// Whether a channel is named, and is there.
+// Whether a channel is named, and is there.
 fn is_named_there(tree: &Tree, number: Option<u32>) -> bool
     ensures { result ≡ is_named_there tree.now number }
 {
@@ -50,7 +50,7 @@ fn is_named_there(tree: &Tree, number: Option<u32>) -> bool
     }
 }
 
-/// Whether each channel that a message names is there.
+// Whether each channel that a message names is there.
 fn names_there(tree: &Tree, message: &TreeMessage) -> bool
     ensures { result ≡ names_there tree.now message.now }
 {
@@ -99,7 +99,7 @@ fn decide_acl(
     }
 }
 
-/// What is decided of a message where each channel that it names is there.
+// What is decided of a message where each channel that it names is there.
 fn decide_command(
     alloc: Global,
     state: &State,
@@ -122,8 +122,8 @@ fn decide_command(
 
 /// What is decided of a message that a session sends. It is decided whole, and in this order: it is
 /// ignored where the session is gone or no edit is taken any more, where its payload as this server
-/// spells it has more than 65,000 bytes, or where a channel that it names is not there; then the first
-/// permission that is missing is named, with its channel; then the first limit that stands, by its type.
+/// encodes it has more than 65,000 bytes, or where a channel that it names is not there; then the first
+/// permission that is missing is named, with its channel; then the first limit that applies, by its type.
 /// Else it is an edit, which fits the state, or the answer to a query. The state stays as it is.
 pub fn decide_tree(
     alloc: Global,

@@ -1,4 +1,4 @@
-//! The frames by which an actor is told that a command is denied.
+//! The frames by which an actor is notified that a command is denied.
 
 ghost use Rattle.std.specs.Prelude.{◌≡◌, IfOk};
 ghost use Rattle.std.specs.Option.{option_map};
@@ -21,7 +21,7 @@ fn number_of(session: Option<SessionId>) -> Option<u32>
     }
 }
 
-/// The word by which a denial that has no type of its own tells why.
+// The word by which a denial that has no type of its own reports why.
 fn word_of_refusal(alloc: Global, kind: u8) -> Result<Option<Text>, OutOfMemory>
     ensures { IfOk result (λ word. word ≡ word_of_refusal kind) }
 {
@@ -80,7 +80,7 @@ fn denial_of_limit(
     })
 }
 
-/// The frame that tells the actor of a verdict that denies: PermissionDenied with the permission and
+/// The frame that notifies the actor of a verdict that denies: PermissionDenied with the permission and
 /// its channel, or with the type of the limit and, for type 0, the word `refused`; Reject with its type
 /// alone. No other verdict has one.
 pub fn denial(

@@ -6,7 +6,7 @@ ghost use Rattle.mum_rules_tree.specs.Codes.{deny_type_of};
 use mum_base::DenyType;
 use mum_tree::TreeFault;
 
-/// For what a command is denied that the tree would refuse.
+// For what a command is denied that the tree would refuse.
 pub(crate) fn deny_type_of(fault: TreeFault) -> DenyType
     ensures { result ≡ deny_type_of fault }
 {

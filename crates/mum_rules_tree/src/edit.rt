@@ -30,7 +30,7 @@ use mum_state::{Edit, State, Verdict};
 use mum_tree::{ChannelChange, Tree, TreeFault};
 use std::alloc::Global;
 
-/// The name that is given, where it is not the channel's own.
+// The name that is given, where it is not the channel's own.
 fn new_name<'a>(tree: &Tree, id: ChannelId, message: &'a ChannelState) -> Option<&'a Text>
     ensures { option_copied result ≡ new_name tree.now id message.now }
 {
@@ -42,7 +42,7 @@ fn new_name<'a>(tree: &Tree, id: ChannelId, message: &'a ChannelState) -> Option
     }
 }
 
-/// The parent that is given, where it is not the channel's own.
+// The parent that is given, where it is not the channel's own.
 fn new_parent(tree: &Tree, id: ChannelId, message: &ChannelState) -> Option<ChannelId>
     ensures { result ≡ new_parent tree.now id message.now }
 {
@@ -54,7 +54,7 @@ fn new_parent(tree: &Tree, id: ChannelId, message: &ChannelState) -> Option<Chan
     }
 }
 
-/// The other channels of these, in their order.
+// The other channels of these, in their order.
 fn others(alloc: Global, id: ChannelId, numbers: &[u32]) -> Result<Items<ChannelId>, OutOfMemory>
     ensures { IfOk result (λ channels. channels ≡ others id numbers.now) }
 {
@@ -107,7 +107,7 @@ fn need_to_move(
     need(state, who, Perm::MAKE_CHANNEL, parent)
 }
 
-/// LinkChannel on each other channel of these.
+// LinkChannel on each other channel of these.
 fn need_on_others(
     state: &State,
     who: &Who<'_>,
@@ -134,14 +134,14 @@ fn need_on_others(
     Ok(())
 }
 
-/// Whether another channel is among these.
+// Whether another channel is among these.
 fn has_other(id: ChannelId, numbers: &[u32]) -> bool
     ensures { result ≡ list_any (is_other id) numbers.now }
 {
     numbers.iter().any(|number| *number != id.0)
 }
 
-/// Whether another channel is linked or parted.
+// Whether another channel is linked or unlinked.
 fn links_other(id: ChannelId, message: &ChannelState) -> bool
     ensures { result ≡ (list_any (is_other id) message.now.links_add
         || list_any (is_other id) message.now.links_remove) }
@@ -149,7 +149,7 @@ fn links_other(id: ChannelId, message: &ChannelState) -> bool
     has_other(id, message.links_add.as_slice()) || has_other(id, message.links_remove.as_slice())
 }
 
-/// LinkChannel on the channel, then on each other one.
+// LinkChannel on the channel, then on each other one.
 fn need_on_linked(
     state: &State,
     who: &Who<'_>,
@@ -182,7 +182,7 @@ fn need_to_link(
     }
 }
 
-/// Whether the name that is given, if one is, is a name.
+// Whether the name that is given, if one is, is a name.
 fn is_name_given(name: Option<&str>) -> bool
     ensures { result ≡ holds_of_given is_name (option_copied name.entry) }
 {
@@ -202,7 +202,7 @@ pub fn is_text_given(text: Option<&Text>) -> bool
     }
 }
 
-/// Whether it is the root that stays as it is.
+// Whether it is the root that stays as it is.
 fn is_of_root(cause: Option<TreeFault>) -> bool
     ensures { result ≡ is_of_root cause }
 {
@@ -212,7 +212,7 @@ fn is_of_root(cause: Option<TreeFault>) -> bool
     }
 }
 
-/// Whether nothing is said against the change but for its links, if anything is.
+// Whether nothing is said against the change but for its links, if anything is.
 fn is_of_links(cause: Option<TreeFault>) -> bool
     ensures { result ≡ is_of_links cause }
 {
@@ -222,8 +222,8 @@ fn is_of_links(cause: Option<TreeFault>) -> bool
     }
 }
 
-/// The first limit that stands, by what the tree says against a change, and whether its name and its
-/// description are as they may be.
+// The first limit that applies, by what the tree says against a change, and whether its name and its
+// description are as they may be.
 fn limit_by_cause(cause: Option<TreeFault>, named: bool, short: bool) -> Option<DenyType>
     ensures { result ≡ limit_by_cause cause named short }
 {
@@ -239,7 +239,7 @@ fn limit_by_cause(cause: Option<TreeFault>, named: bool, short: bool) -> Option<
     }
 }
 
-/// The first limit that stands against other parts of a channel, of which no link goes.
+// The first limit that forbids other parts of a channel, of which no link goes.
 fn limit_of_change(tree: &Tree, id: ChannelId, change: &ChannelChange<'_>) -> Option<DenyType>
     requires there { IsTrue (names_there tree.now id (change_of change.now)) }
     requires none_goes { change.now.links_remove.now ≡ [] }
@@ -274,7 +274,7 @@ fn str_of(text: Option<&Text>) -> Option<&str>
     }
 }
 
-/// What becomes another of the channel, before any link goes. The tree takes links without a copy.
+// What becomes another of the channel, before any link goes. The tree takes links without a copy.
 fn change_asked<'a>(
     tree: &Tree,
     id: ChannelId,
@@ -318,7 +318,7 @@ fn edit_to_change(
     })
 }
 
-/// The first limit that stands against an edit, where all that it names is there.
+// The first limit that forbids an edit, where all that it names is there.
 fn limit_of_edit(
     alloc: Global,
     tree: &Tree,
@@ -334,7 +334,7 @@ fn limit_of_edit(
     Ok(limit_of_change(tree, id, &change))
 }
 
-/// What is decided of other parts of a channel, where all that the message names is there.
+// What is decided of other parts of a channel, where all that the message names is there.
 pub(crate) fn decide_edit(
     alloc: Global,
     state: &State,

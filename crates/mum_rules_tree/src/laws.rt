@@ -14,17 +14,17 @@ pub fn accepts_where_nothing_stands()
     ensures { AcceptsWhereNothingStands }
 {}
 
-/// A message that no reason, no need and no limit stands against is accepted or answered.
+/// A message that no reason, no need and no limit forbids is accepted or answered.
 pub fn grants_where_nothing_stands()
     ensures { GrantsWhereNothingStands }
 {}
 
-/// A message is ignored for the first reason that stands, whatever else is against it.
+/// A message is ignored for the first reason that applies, whatever else is against it.
 pub fn ignores_for_first_reason()
     ensures { IgnoresForFirstReason }
 {}
 
-/// A refusal names the first limit that stands: there is no reason to ignore the message, and each need
+/// A refusal names the first limit that applies: there is no reason to ignore the message, and each need
 /// is met.
 pub fn refuses_for_first_limit()
     ensures { RefusesForFirstLimit }

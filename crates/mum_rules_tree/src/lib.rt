@@ -1,5 +1,5 @@
 //! What is decided of the messages that ask for other channels, or for other groups and access control
-//! lists: ChannelState, ChannelRemove and ACL. What every decision shares, whatever it is about, stands
+//! lists: ChannelState, ChannelRemove and ACL. What every decision shares, whatever it is about, is
 //! in `reason`, `needs`, `deny`, `denials` and `tokens`, and as definitions in `specs/Decision.antt`.
 #![tactic(auto)]
 

@@ -26,7 +26,7 @@ fn is_to_be_temporary(message: &ChannelState) -> bool
     message.temporary.unwrap_or(false)
 }
 
-/// The permission to make it.
+// The permission to make it.
 fn making(message: &ChannelState) -> Perm
     ensures { result ≡ making message.now }
 {
@@ -37,7 +37,7 @@ fn making(message: &ChannelState) -> Perm
     }
 }
 
-/// The first limit that stands against a new channel.
+// The first limit that forbids a new channel.
 fn limit_of_new(tree: &Tree, parent: ChannelId, name: &str, description: &str) -> Option<DenyType>
     requires { IsTrue (is_there tree.now.channels parent) }
     ensures { result
@@ -86,7 +86,7 @@ fn edit_to_make(
     })
 }
 
-/// What is decided of a new channel whose parent is there.
+// What is decided of a new channel whose parent is there.
 pub(crate) fn decide_new(
     alloc: Global,
     state: &State,

@@ -9,7 +9,7 @@ use mum_base::{ChannelId, PLACES, Perm};
 use mum_policy::Who;
 use mum_state::State;
 
-/// The channels in which whoever asks was found to have one permission, by their places.
+/// The channels in which the actor was found to have one permission, by their places.
 #[derive(Drop)]
 pub struct MetPlaces {
     marks: [bool; PLACES],
@@ -27,7 +27,8 @@ impl MetPlaces {
 }
 
 /// A permission in a channel, or what is missing. Where it was found before it is not looked for again:
-/// a message can name one channel more than 30,000 times.
+/// a message can name one channel more than 30,000 times. That it is looked for once is not proved; `bench/run`
+/// measures such a message.
 pub fn need_once(
     state: &State,
     who: &Who<'_>,

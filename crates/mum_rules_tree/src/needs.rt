@@ -27,7 +27,7 @@ impl Lack {
     }
 }
 
-/// Whether whoever asks has a permission in a channel. The list on the channel's path is read once.
+/// Whether the actor has a permission in a channel. The list on the channel's path is read once.
 pub fn may(state: &State, who: &Who<'_>, perm: Perm, channel: ChannelId) -> bool
     ensures { result ≡ is_open state.now (way (actor_of who.now) perm channel) }
 {

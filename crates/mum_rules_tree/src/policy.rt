@@ -80,7 +80,7 @@ fn entry_asked(alloc: Global, line: &AclLine) -> Result<AclEntry, OutOfMemory>
     })
 }
 
-/// The groups that are the channel's own.
+// The groups that are the channel's own.
 fn own_groups(alloc: Global, groups: &[AclGroup]) -> Result<Items<Group>, OutOfMemory>
     ensures { IfOk result (λ own. own
         ≡ map group_asked (filter (λ group. not (is_inherited group.inherited)) groups.now)) }
@@ -94,7 +94,7 @@ fn own_groups(alloc: Global, groups: &[AclGroup]) -> Result<Items<Group>, OutOfM
     Ok(Items::from_vec(own))
 }
 
-/// The entries that are the channel's own.
+// The entries that are the channel's own.
 fn own_entries(alloc: Global, lines: &[AclLine]) -> Result<Items<AclEntry>, OutOfMemory>
     ensures { IfOk result (λ own. own
         ≡ map entry_asked (filter (λ line. not (is_inherited line.inherited)) lines.now)) }
@@ -128,7 +128,7 @@ fn are_named(groups: &[Group]) -> bool
         .all(|group| check_name(group.name.as_str()).is_ok())
 }
 
-/// Whether one of these groups has this name.
+// Whether one of these groups has this name.
 fn is_among(name: &str, groups: &[Group]) -> bool
     ensures { result ≡ list_any (bytes_eq name.now) (map (λ group. group.name) groups.now) }
 {
@@ -140,7 +140,7 @@ fn is_among(name: &str, groups: &[Group]) -> bool
     false
 }
 
-/// Whether two of these groups have one name.
+// Whether two of these groups have one name.
 fn has_twice(groups: &[Group]) -> bool
     ensures { result ≡ has_twice (map (λ group. group.name) groups.now) }
 {
@@ -152,7 +152,7 @@ fn has_twice(groups: &[Group]) -> bool
     false
 }
 
-/// The first limit that stands against a policy. All have one type.
+// The first limit that forbids a policy. All have one type.
 pub(crate) fn limit_of_policy(policy: &ChannelPolicy) -> Option<DenyType>
     ensures { result ≡ first_standing (limits_of_policy policy.now) }
 {

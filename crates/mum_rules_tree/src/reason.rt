@@ -5,7 +5,7 @@ ghost use Rattle.mum_rules_tree.specs.Reasons.{takes_no_edits};
 
 use mum_state::{EDIT_LIMIT, State};
 
-/// The most bytes of a command's payload as this server spells it, so that it fits one line of a
+/// The most bytes of a command's payload as this server encodes it, so that it fits one line of a
 /// recording.
 pub const COMMAND_LIMIT: usize = 65_000;
 

@@ -10,7 +10,7 @@ use mum_base::{ChannelId, DenyType, Perm};
 use mum_policy::Who;
 use mum_state::{Edit, State, Verdict};
 
-/// What is decided of the removal of a channel.
+// What is decided of the removal of a channel.
 pub(crate) fn decide_removal(state: &State, who: &Who<'_>, id: ChannelId) -> Verdict
     ensures { result
         ≡ command_verdict state.now (actor_of who.now) who.now.session (Command.remove id) }

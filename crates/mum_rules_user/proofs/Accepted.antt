@@ -1,52 +1,8 @@
 -- An accepted command on users is an edit that fits.
-use Rattle.std.proofs.Common.{◌≡◌, ℕ, ◌&&◌, ◌||◌, Bool, true, false, not, eqb, ltb, List, [], ◌∷◌, ◌++◌, Option, Some, None, refl, ap, ◌∙◌}
-use Rattle.std.specs.List.{list_all, list_any}
-use Rattle.std.specs.Option.{is_none, option_map, option_map_or}
-use Rattle.std.proofs.lemmas.Bool.{and_from, and_parts, cond_both, leb-false, lt-ltb, not-false, not_from_false, or_parts}
-use Rattle.std.proofs.lemmas.List.Folds.{list_all-append}
-use Rattle.mum_base.specs.declared.number.ChannelId.{ChannelId}
-use Rattle.mum_base.specs.declared.number.SessionId.{SessionId}
-use Rattle.mum_msg_rule.specs.declared.text_message.TextMessage.{TextMessage}
-use Rattle.mum_msg_rule.specs.declared.voice_target.VoiceTarget.{VoiceTarget}
-use Rattle.mum_msg_state.specs.declared.authenticate.Authenticate.{Authenticate}
-use Rattle.mum_msg_state.specs.declared.user_remove.UserRemove.{UserRemove}
-use Rattle.mum_msg_state.specs.declared.user_state.UserState.{UserState}
-use Rattle.mum_policy.specs.Member.{Actor}
-use Rattle.mum_tree.specs.Rows.{is_there}
-use Rattle.mum_users.specs.declared.target.TheConstants.{LAST_TARGET}
-use Rattle.mum_users.specs.Edit.{edit_fault}
-use Rattle.mum_users.specs.State.{has_number, is_context}
-use Rattle.mum_users.specs.Targets.{is_oversize}
-use Rattle.mum_state.specs.declared.count.TheConstants.{EDIT_LIMIT}
-use Rattle.mum_state.specs.declared.edit.Edit.TheVariants.{Leave as LeaveEdit, SetTarget, SetTokens}
-use Rattle.mum_state.specs.declared.verdict.Verdict.TheVariants.{Answer, Ignored}
-use Rattle.mum_state.specs.Fits.{fits, holds_of_given}
-use Rattle.mum_state.specs.Named.{given}
-use Rattle.mum_state.specs.Parts.{user_parts}
-use Rattle.mum_state.specs.Permissions.{granted_where_there}
-use Rattle.mum_state.specs.Proper.{IsProper, is_text}
-use Rattle.mum_state.specs.State.{StateValue}
-use Rattle.mum_rules_tree.specs.Asked.{channel, given_unless, is_number_there}
-use Rattle.mum_base.specs.Codes.{reason_code}
-use Rattle.mum_rules_tree.specs.Decision.{FitsWhereAccepted, first_lack, first_standing}
-use Rattle.mum_rules_tree.specs.Reasons.{is_gone, takes_no_edits}
-use Rattle.mum_base.specs.declared.outcome.Reason.TheVariants.{NotThere}
-use Rattle.mum_rules_tree.proofs.Accepted.{fits_from, named_from}
-use Rattle.mum_rules_tree.proofs.Cleared.{all_off, fits_unless}
-use Rattle.mum_rules_tree.proofs.Named.{some_found}
-use Rattle.mum_rules_user.specs.declared.message.UserMessage.{UserMessage}
-use Rattle.mum_rules_user.specs.declared.message.UserMessage.TheVariants.{Join, User, Kick, Text, Target, Query, Leave}
-use Rattle.mum_rules_user.specs.Asked.{Command, channels, command_of, is_here, names_there, new_channel, number_of_target, session_or, target_asked}
-use Rattle.mum_rules_user.specs.Limits.{limits, limits_of_change, limits_of_target}
-use Rattle.mum_rules_user.specs.Login.{limits_of_login, tokens_kept}
-use Rattle.mum_rules_user.specs.Needs.{needs}
-use Rattle.mum_rules_user.specs.Outcome.{answer_frame, edit_to_change, edit_to_kick, edit_to_tell, outcome}
-use Rattle.mum_rules_user.specs.Reasons.{reasons}
-use Rattle.mum_rules_user.specs.Verdict.{actor_for, command_verdict, heard_verdict, user_verdict}
-use Rattle.mum_rules_user.proofs.Listened.{listening_taken}
-use Rattle.mum_rules_user.proofs.LoggedIn.{kept_are_tokens, login_fits}
+use Rattle.mum_rules_user.proofs.Common.{◌≡◌, ℕ, ◌&&◌, ◌||◌, Bool, true, false, not, eqb, ltb, List, [], ◌∷◌, ◌++◌, Option, Some, None, refl, ap, ◌∙◌, list_all, list_any, is_none, option_map, option_map_or, and_from, and_parts, cond_both, leb-false, lt-ltb, not-false, not_from_false, or_parts, list_all-append, ChannelId, SessionId, TextMessage, VoiceTarget, Authenticate, UserRemove, UserState, Actor, is_there, LAST_TARGET, edit_fault, has_number, is_context, is_oversize, EDIT_LIMIT, LeaveEdit, SetTarget, SetTokens, Answer, Ignored, fits, holds_of_given, given, user_parts, granted_where_there, IsProper, is_text, StateValue, channel, given_unless, is_number_there, reason_code, FitsWhereAccepted, first_lack, first_standing, is_gone, takes_no_edits, NotThere, fits_from, named_from, all_off, fits_unless, some_found, UserMessage, Join, User, Kick, Text, Target, Query, Leave, Command, channels, command_of, is_here, names_there, new_channel, number_of_target, session_or, target_asked, limits, limits_of_change, limits_of_target, limits_of_login, tokens_kept, needs, answer_frame, edit_to_change, edit_to_kick, edit_to_tell, outcome, reasons, actor_for, command_verdict, heard_verdict, user_verdict}
+use Rattle.mum_rules_user.proofs.{Listened.listening_taken, LoggedIn.kept_are_tokens, LoggedIn.login_fits}
 
--- ---- whoever asks is here, and edits are taken
+-- ---- the actor is here, and edits are taken
 
 record IsHeard (state : StateValue) (actor : SessionId) : Type 0 where
   here : list_any (has_number actor) state.roster.sessions ≡ true
@@ -66,7 +22,7 @@ one_here state session here = and_from (list_any (has_number session) state.rost
 two_here : (state : StateValue) (one other : SessionId) → list_any (has_number one) state.roster.sessions ≡ true → list_any (has_number other) state.roster.sessions ≡ true → list_all (λ s. list_any (has_number s) state.roster.sessions) (one ∷ other ∷ []) ≡ true
 two_here state one other here there = and_from (list_any (has_number one) state.roster.sessions) (list_all (λ s. list_any (has_number s) state.roster.sessions) (other ∷ [])) here (one_here state other there)
 
--- the session that a message names, or whoever asks
+-- the session that a message names, or the actor
 session_here : (state : StateValue) (actor : SessionId) (number : Option ℕ) → list_any (has_number actor) state.roster.sessions ≡ true → holds_of_given (is_here state.roster) number ≡ true → list_any (has_number (session_or actor number)) state.roster.sessions ≡ true
 session_here state actor None here named = here
 session_here state actor (Some number) here named = named

@@ -1,27 +1,5 @@
 -- What an accepted UserState shows of the permissions of whoever sent it.
-use Rattle.std.proofs.Common.{◌≡◌, ℕ, ◌&&◌, ◌||◌, Bool, true, false, not, cond, List, [], ◌∷◌, ◌++◌, Option, Some, None, refl, ap, sym, ◌∙◌, subst}
-use Rattle.std.specs.List.{All}
-use Rattle.std.specs.Option.{option_map_or}
-use Rattle.std.proofs.lemmas.List.Elements.{All-cons, All-head, All-nil, All-tail}
-use Rattle.mum_base.specs.declared.number.ChannelId.{ChannelId}
-use Rattle.mum_base.specs.declared.number.SessionId.{SessionId}
-use Rattle.mum_base.specs.declared.perm.TheConstants.Perm.{ENTER, MOVE, MUTE_DEAFEN}
-use Rattle.mum_msg_state.specs.declared.user_state.UserState.{UserState}
-use Rattle.mum_policy.specs.Member.{Actor}
-use Rattle.mum_state.specs.declared.edit.Edit.{Edit}
-use Rattle.mum_state.specs.declared.verdict.Verdict.TheVariants.{Accepted}
-use Rattle.mum_state.specs.State.{StateValue}
-use Rattle.mum_rules_tree.specs.Decision.{Need, is_met, is_open, need, way}
-use Rattle.mum_rules_tree.specs.Laws.{AllMet}
-use Rattle.mum_rules_tree.specs.Verdict.{actor_named}
-use Rattle.mum_rules_tree.proofs.Cleared.{all_off}
-use Rattle.mum_rules_tree.proofs.Firsts.{all_met_where}
-use Rattle.mum_rules_user.specs.declared.message.UserMessage.TheVariants.{User}
-use Rattle.mum_rules_user.specs.Asked.{channel_of, is_oneself, new_channel, rules_speech, session_or, sets_own}
-use Rattle.mum_rules_user.specs.Laws.{EntersWherePermitted, LeavesOwnToOthers, MovesWherePermitted, RulesSpeechWherePermitted, needs_of}
-use Rattle.mum_rules_user.specs.Needs.{either_way, needs_to_bring, needs_to_enter, needs_to_listen, needs_to_move, needs_to_rule_speech}
-use Rattle.mum_rules_user.specs.Reasons.{reasons}
-use Rattle.mum_rules_user.specs.Verdict.{actor_for, user_verdict}
+use Rattle.mum_rules_user.proofs.Common.{◌≡◌, ℕ, ◌&&◌, ◌||◌, Bool, true, false, not, cond, List, [], ◌∷◌, ◌++◌, Option, Some, None, refl, ap, sym, ◌∙◌, subst, All, option_map_or, All-cons, All-head, All-nil, All-tail, ChannelId, SessionId, ENTER, MOVE, MUTE_DEAFEN, UserState, Actor, Edit, Accepted, StateValue, Need, is_met, is_open, need, way, AllMet, actor_named, all_off, all_met_where, User, channel_of, is_oneself, new_channel, rules_speech, session_or, sets_own, EntersWherePermitted, LeavesOwnToOthers, MovesWherePermitted, RulesSpeechWherePermitted, needs_of, either_way, needs_to_bring, needs_to_enter, needs_to_listen, needs_to_move, needs_to_rule_speech, reasons, actor_for, user_verdict}
 use Rattle.mum_rules_user.proofs.Firsts.{clear}
 
 -- ---- of needs that are all met, the first are, and the others

@@ -1,36 +1,5 @@
 -- What decides a message: the first reason, or where nothing is against it, what it asks.
-use Rattle.std.proofs.Common.{◌≡◌, ℕ, ◌&&◌, Bool, true, false, not, cond, List, Option, Some, None, refl, ap, sym, ◌∙◌, subst}
-use Rattle.std.specs.Option.{is_some, option_map_or}
-use Rattle.std.proofs.lemmas.Bool.{not-false, true≢false}
-use Rattle.mum_base.specs.Codes.{reason_code, reject_code}
-use Rattle.mum_base.specs.declared.number.ChannelId.{ChannelId}
-use Rattle.mum_base.specs.declared.number.SessionId.{SessionId}
-use Rattle.mum_base.specs.declared.number.TheConstants.ChannelId.{ROOT}
-use Rattle.mum_base.specs.declared.outcome.Reason.{Reason}
-use Rattle.mum_base.specs.declared.outcome.Reason.TheVariants.{NotLoggedIn, NotThere}
-use Rattle.mum_base.specs.declared.outcome.RejectType.{RejectType}
-use Rattle.mum_policy.specs.Member.{Actor}
-use Rattle.mum_tree.specs.Rows.{is_there}
-use Rattle.mum_state.specs.declared.edit.Edit.{Edit}
-use Rattle.mum_state.specs.declared.verdict.Verdict.{Verdict}
-use Rattle.mum_state.specs.declared.verdict.Verdict.TheVariants.{Accepted, Answer, Ignored, Rejected}
-use Rattle.mum_state.specs.Permissions.{granted_to}
-use Rattle.mum_state.specs.Proper.{IsProper}
-use Rattle.mum_state.specs.State.{StateValue}
-use Rattle.mum_rules_tree.specs.Asked.{channel_or_root, is_number_there}
-use Rattle.mum_rules_tree.specs.Decision.{first_lack, first_standing}
-use Rattle.mum_rules_tree.specs.Laws.{IsAcceptedOrAnswered, IsFirstStanding}
-use Rattle.mum_rules_tree.proofs.Cleared.{all_off}
-use Rattle.mum_rules_tree.proofs.Complete.{first_of, ignored_at, no_first, no_lack, rest_at}
-use Rattle.mum_rules_user.specs.declared.message.UserMessage.{UserMessage}
-use Rattle.mum_rules_user.specs.declared.message.UserMessage.TheVariants.{Join, User, Kick, Text, Target, Query, Leave}
-use Rattle.mum_rules_user.specs.Asked.{command_of, names_there}
-use Rattle.mum_rules_user.specs.Laws.{GrantsWhereNothingStands, IgnoresForFirstReason, needs_of}
-use Rattle.mum_rules_user.specs.Limits.{limits}
-use Rattle.mum_rules_user.specs.Login.{edit_to_join, limits_of_login}
-use Rattle.mum_rules_user.specs.Outcome.{answer_frame, answer_to_query, outcome}
-use Rattle.mum_rules_user.specs.Reasons.{is_not_logged_in, reasons}
-use Rattle.mum_rules_user.specs.Verdict.{actor_for}
+use Rattle.mum_rules_user.proofs.Common.{◌≡◌, ℕ, ◌&&◌, Bool, true, false, not, cond, List, Option, Some, None, refl, ap, sym, ◌∙◌, subst, is_some, option_map_or, not-false, true≢false, reason_code, reject_code, ChannelId, SessionId, ROOT, Reason, NotLoggedIn, NotThere, RejectType, Actor, is_there, Edit, Verdict, Accepted, Answer, Ignored, Rejected, granted_to, IsProper, StateValue, channel_or_root, is_number_there, first_lack, first_standing, IsAcceptedOrAnswered, IsFirstStanding, all_off, first_of, ignored_at, no_first, no_lack, rest_at, UserMessage, Join, User, Kick, Text, Target, Query, Leave, command_of, names_there, GrantsWhereNothingStands, IgnoresForFirstReason, needs_of, limits, edit_to_join, limits_of_login, answer_frame, answer_to_query, outcome, is_not_logged_in, reasons, actor_for}
 
 -- ---- what a command is where nothing is against it
 

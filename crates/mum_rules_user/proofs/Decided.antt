@@ -1,34 +1,5 @@
 -- What is decided of a message that there is no reason to ignore.
-use Rattle.std.proofs.Common.{◌≡◌, ℕ, Bool, true, false, not, ltb, List, [], ◌∷◌, length, Option, Some, None, Result, Ok, Err, ap, sym, ◌∙◌, subst}
-use Rattle.std.specs.List.{list_any}
-use Rattle.std.specs.Option.{is_none, option_map_or}
-use Rattle.std.specs.Result.{IfOk}
-use Rattle.std.proofs.lemmas.Bool.{eqb-true, not-false, or_from}
-use Rattle.mum_base.specs.declared.number.SessionId.{SessionId}
-use Rattle.mum_policy.specs.Member.{Actor}
-use Rattle.mum_users.specs.declared.user.User.{User as UserRow}
-use Rattle.mum_users.specs.Sessions.{session_of}
-use Rattle.mum_users.specs.State.{has_number}
-use Rattle.mum_state.specs.declared.verdict.Verdict.{Verdict}
-use Rattle.mum_state.specs.declared.verdict.Verdict.TheVariants.{Ignored}
-use Rattle.mum_state.specs.Proper.{IsProper}
-use Rattle.mum_state.specs.State.{StateValue}
-use Rattle.mum_base.specs.declared.outcome.Reason.{Reason}
-use Rattle.mum_base.specs.declared.outcome.Reason.TheVariants.{EmptyText, Gone, NotLoggedIn, NotThere, OfAnother, TooLong}
-use Rattle.mum_rules_tree.specs.declared.reason.TheConstants.{COMMAND_LIMIT}
-use Rattle.mum_base.specs.Codes.{reason_code}
-use Rattle.mum_rules_tree.specs.Decision.{Case, FitsWhereAccepted, case_of, first_standing}
-use Rattle.mum_rules_tree.specs.Reasons.{is_gone, takes_no_edits}
-use Rattle.mum_rules_tree.specs.Tokens.{tokens_for_once}
-use Rattle.mum_state.specs.Permissions.{actor_with}
-use Rattle.mum_rules_tree.specs.Verdict.{nobody}
-use Rattle.mum_rules_tree.proofs.Cleared.{all_off}
-use Rattle.mum_rules_tree.proofs.Heard.{found_passes}
-use Rattle.mum_rules_tree.proofs.Named.{some_found}
-use Rattle.mum_rules_user.specs.declared.message.UserMessage.{UserMessage}
-use Rattle.mum_rules_user.specs.Asked.{command_of, is_empty_text, names_there, payload_of, sets_own_of_another}
-use Rattle.mum_rules_user.specs.Reasons.{reasons}
-use Rattle.mum_rules_user.specs.Verdict.{actor_for, command_verdict, heard_verdict, tokens_brought, user_verdict}
+use Rattle.mum_rules_user.proofs.Common.{◌≡◌, ℕ, Bool, true, false, not, ltb, List, [], ◌∷◌, length, Option, Some, None, Result, Ok, Err, ap, sym, ◌∙◌, subst, list_any, is_none, option_map_or, IfOk, eqb-true, not-false, or_from, SessionId, Actor, UserRow, session_of, has_number, Verdict, Ignored, IsProper, StateValue, Reason, EmptyText, Gone, NotLoggedIn, NotThere, OfAnother, TooLong, COMMAND_LIMIT, reason_code, Case, FitsWhereAccepted, case_of, first_standing, is_gone, takes_no_edits, tokens_for_once, actor_with, nobody, all_off, found_passes, some_found, UserMessage, command_of, is_empty_text, names_there, payload_of, sets_own_of_another, reasons, actor_for, command_verdict, heard_verdict, tokens_brought, user_verdict}
 use Rattle.mum_rules_user.proofs.Accepted.{accepted_fits, login_accepted_fits}
 
 -- the reasons that are left where the session is here and edits are taken

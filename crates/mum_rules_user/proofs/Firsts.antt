@@ -1,38 +1,5 @@
 -- What a verdict says of the tables.
-use Rattle.std.proofs.Common.{◌≡◌, ℕ, ◌&&◌, Bool, true, false, not, List, Option, Some, None, refl, ap, sym, ◌∙◌}
-use Rattle.std.specs.Option.{option_map_or}
-use Rattle.std.proofs.lemmas.Bool.{not-false}
-use Rattle.mum_base.specs.declared.number.ChannelId.{ChannelId}
-use Rattle.mum_base.specs.declared.number.SessionId.{SessionId}
-use Rattle.mum_base.specs.declared.perm.Perm.{Perm}
-use Rattle.mum_msg_state.specs.declared.authenticate.Authenticate.{Authenticate}
-use Rattle.mum_policy.specs.Member.{Actor}
-use Rattle.mum_state.specs.declared.account.Account.{Account}
-use Rattle.mum_state.specs.declared.edit.Edit.{Edit}
-use Rattle.mum_state.specs.declared.verdict.Verdict.{Verdict}
-use Rattle.mum_state.specs.declared.verdict.Verdict.TheVariants.{Accepted, Answer, Ignored, Lacks, Refused, Rejected}
-use Rattle.mum_state.specs.Permissions.{granted_where_there}
-use Rattle.mum_state.specs.State.{StateValue, account_named}
-use Rattle.mum_base.specs.declared.outcome.DenyType.{DenyType}
-use Rattle.mum_rules_tree.specs.declared.needs.Lack.{Lack}
-use Rattle.mum_base.specs.declared.outcome.Reason.{Reason}
-use Rattle.mum_base.specs.declared.outcome.Reason.TheVariants.{NotThere, NotLoggedIn}
-use Rattle.mum_base.specs.Codes.{deny_code, reason_code}
-use Rattle.mum_rules_tree.specs.Decision.{first_lack, first_standing}
-use Rattle.mum_rules_tree.proofs.Cleared.{all_off}
-use Rattle.mum_rules_tree.proofs.Complete.{first_of, refused_at}
-use Rattle.mum_rules_tree.proofs.Firsts.{all_met_where, first_missing, none_stands}
-use Rattle.mum_rules_user.specs.declared.message.UserMessage.{UserMessage}
-use Rattle.mum_rules_user.specs.declared.message.UserMessage.TheVariants.{Join, User, Kick, Text, Target, Query, Leave}
-use Rattle.mum_base.specs.declared.outcome.RejectType.{RejectType}
-use Rattle.mum_rules_user.specs.Asked.{Command, command_of, is_oneself, rules_speech, session_or}
-use Rattle.mum_base.specs.Codes.{reject_code}
-use Rattle.mum_rules_user.specs.Laws.{AcceptsWhereNothingStands, KeepsSuperUser, LogsInWhereNothingStands, NamesFirstMissing, OwnersAlone, RefusesForFirstLimit, RejectsForFirstLimit, SparesSuperUser, needs_of}
-use Rattle.mum_rules_user.specs.Limits.{is_super_user, limits}
-use Rattle.mum_rules_user.specs.Login.{edit_to_join, is_digest_of, is_not_the_owner, limits_of_login, name_given, password_given}
-use Rattle.mum_rules_user.specs.Outcome.{answer_frame, outcome}
-use Rattle.mum_rules_user.specs.Reasons.{reasons}
-use Rattle.mum_rules_user.specs.Verdict.{actor_for, user_verdict}
+use Rattle.mum_rules_user.proofs.Common.{◌≡◌, ℕ, ◌&&◌, Bool, true, false, not, List, Option, Some, None, refl, ap, sym, ◌∙◌, option_map_or, not-false, ChannelId, SessionId, Perm, Authenticate, Actor, Account, Edit, Verdict, Accepted, Answer, Ignored, Lacks, Refused, Rejected, granted_where_there, StateValue, account_named, DenyType, Lack, Reason, NotThere, NotLoggedIn, deny_code, reason_code, first_lack, first_standing, all_off, first_of, refused_at, all_met_where, first_missing, none_stands, UserMessage, Join, User, Kick, Text, Target, Query, Leave, RejectType, Command, command_of, is_oneself, rules_speech, session_or, reject_code, AcceptsWhereNothingStands, KeepsSuperUser, LogsInWhereNothingStands, NamesFirstMissing, OwnersAlone, RefusesForFirstLimit, RejectsForFirstLimit, SparesSuperUser, needs_of, is_super_user, limits, edit_to_join, is_digest_of, is_not_the_owner, limits_of_login, name_given, password_given, answer_frame, outcome, reasons, actor_for, user_verdict}
 
 -- ---- a session
 

@@ -1,11 +1,5 @@
 -- Needs in three groups, one after another.
-use Rattle.std.proofs.Common.{◌≡◌, List, ◌++◌, map, Ok, Err, sym, ap, ◌∙◌}
-use Rattle.std.proofs.lemmas.List.{map-append}
-use Rattle.mum_base.specs.declared.number.ChannelId.{ChannelId}
-use Rattle.mum_state.specs.State.{StateValue}
-use Rattle.mum_rules_tree.specs.declared.needs.Lack.{Lack}
-use Rattle.mum_rules_tree.specs.Decision.{Need, all_met}
-use Rattle.mum_rules_tree.proofs.OneByOne.{met_on, met_stop}
+use Rattle.mum_rules_user.proofs.Common.{◌≡◌, List, ◌++◌, map, Ok, Err, sym, ap, ◌∙◌, map-append, ChannelId, StateValue, Lack, Need, all_met, met_on, met_stop}
 
 -- what is missing of the first is missing of all
 pub first_fails : (state : StateValue) (first second third : List Need) (lack : Lack) → Err lack ≡ all_met state first → Err lack ≡ all_met state (first ++ second ++ third)

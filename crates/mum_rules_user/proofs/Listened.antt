@@ -1,28 +1,5 @@
 -- To what a session listens: what it leaves makes no listener more.
-use Rattle.std.proofs.Common.{◌≡◌, ℕ, ◌≤◌, ◌&&◌, ◌||◌, Bool, true, false, not, cond, eqb, ltb, List, [], ◌∷◌, Option, Some, None, refl, sym, ap, ◌∙◌, arith}
-use Rattle.std.specs.List.{count_by, filter, list_any}
-use Rattle.std.specs.Option.{option_map}
-use Rattle.std.proofs.lemmas.Bool.{and_parts, eqb-true, or_from, or_parts}
-use Rattle.std.proofs.lemmas.Bool.Decides.{nat_tests}
-use Rattle.mum_base.specs.Channels.{is_among}
-use Rattle.mum_base.specs.declared.number.ChannelId.{ChannelId}
-use Rattle.mum_base.specs.declared.number.SessionId.{SessionId}
-use Rattle.mum_users.specs.declared.fault.UserFault.{UserFault}
-use Rattle.mum_users.specs.declared.fault.UserFault.TheVariants.{NoSession, ListenerLimit, UserListenerLimit}
-use Rattle.mum_users.specs.declared.listening.ListenerPair.{ListenerPair}
-use Rattle.mum_users.specs.declared.listening.TheConstants.{CHANNEL_LISTENERS, LISTENED_CHANNELS}
-use Rattle.mum_users.specs.Edit.{UserEdit, edit_fault, is_crowded, pairs_after, staying, with_channels}
-use Rattle.mum_users.specs.Listeners.{pair_below}
-use Rattle.mum_users.specs.Order.{Rises}
-use Rattle.mum_users.specs.State.{RosterState, has_number, is_of_channel, is_of_session, is_pair}
-use Rattle.mum_users.proofs.Counts.{count_by-filter-le}
-use Rattle.mum_users.proofs.Edits.{Rises-with_channels, listed-with_channels}
-use Rattle.mum_users.proofs.Orders.{Rises-filter}
-use Rattle.mum_users.proofs.PairCounts.{count-put, count-put_other}
-use Rattle.mum_base.specs.declared.outcome.DenyType.TheVariants.{ChannelListenerLimit as ChannelLimit, UserListenerLimit as UserLimit}
-use Rattle.mum_rules_tree.specs.Decision.{case_of, first_standing}
-use Rattle.mum_rules_user.specs.Codes.{listening_type_of}
-use Rattle.mum_rules_user.specs.Limits.{limits_of_listening, pairs_with}
+use Rattle.mum_rules_user.proofs.Common.{◌≡◌, ℕ, ◌≤◌, ◌&&◌, ◌||◌, Bool, true, false, not, cond, eqb, ltb, List, [], ◌∷◌, Option, Some, None, refl, sym, ap, ◌∙◌, arith, count_by, filter, list_any, option_map, and_parts, eqb-true, or_from, or_parts, nat_tests, is_among, ChannelId, SessionId, UserFault, NoSession, ListenerLimit, UserListenerLimit, ListenerPair, CHANNEL_LISTENERS, LISTENED_CHANNELS, UserEdit, edit_fault, is_crowded, pairs_after, staying, with_channels, pair_below, Rises, RosterState, has_number, is_of_channel, is_of_session, is_pair, count_by-filter-le, Rises-with_channels, listed-with_channels, Rises-filter, count-put, count-put_other, ChannelLimit, UserLimit, case_of, first_standing, listening_type_of, limits_of_listening, pairs_with}
 
 -- the session does not leave the pair's channel
 abbrev stays : SessionId → List ChannelId → ListenerPair → Bool

@@ -1,28 +1,5 @@
 -- A login that is accepted is one that the state takes.
-use Rattle.std.proofs.Common.{◌≡◌, ℕ, ◌≤◌, ◌&&◌, ◌||◌, Bool, true, false, not, cond, eqb, leb, ltb, List, [], ◌∷◌, length, length-take, take, Option, Some, None, refl, sym, ap, ◌∙◌, subst, arith, ⊎_elim}
-use Rattle.std.specs.List.{filter, find, list_any}
-use Rattle.std.specs.Option.{is_none, option_map, option_map_or}
-use Rattle.std.proofs.lemmas.Bool.{and_from, cases_Bool, eq-eqb, not-false, not_from_false, or_left, or_right, or_parts}
-use Rattle.std.proofs.lemmas.Bool.Decides.{nat_tests}
-use Rattle.mum_base.specs.Name.{name_fault}
-use Rattle.mum_base.specs.declared.name.TheConstants.{NAME_LIMIT}
-use Rattle.mum_msg_state.specs.declared.authenticate.Authenticate.{Authenticate}
-use Rattle.mum_users.specs.declared.fault.UserFault.{UserFault}
-use Rattle.mum_users.specs.declared.fault.UserFault.TheVariants.{NameInUse, Full, SessionsUsedUp}
-use Rattle.mum_users.specs.declared.user.TheConstants.{TOKENS}
-use Rattle.mum_users.specs.Sessions.{is_full, is_used_up, join_fault, next_number, next_slot}
-use Rattle.mum_users.specs.State.{RosterState, are_tokens, has_name, is_long_token}
-use Rattle.mum_state.specs.declared.account.Account.{Account}
-use Rattle.mum_state.specs.declared.count.TheConstants.{EDIT_LIMIT}
-use Rattle.mum_state.specs.Fits.{fits}
-use Rattle.mum_state.specs.Proper.{is_name, is_short}
-use Rattle.mum_state.specs.State.{StateValue, account_named, has_account, is_named, is_numbered}
-use Rattle.mum_rules_tree.specs.Decision.{case_of, first_standing}
-use Rattle.mum_rules_tree.proofs.Accepted.{fits_from, named_from}
-use Rattle.mum_rules_tree.proofs.Cleared.{all_off}
-use Rattle.mum_base.specs.declared.outcome.RejectType.TheVariants.{ServerFull, UsernameInUse}
-use Rattle.mum_rules_user.specs.Codes.{reject_type_of}
-use Rattle.mum_rules_user.specs.Login.{edit_to_join, limits_of_login, limits_of_seat, name_given, tokens_kept}
+use Rattle.mum_rules_user.proofs.Common.{◌≡◌, ℕ, ◌≤◌, ◌&&◌, ◌||◌, Bool, true, false, not, cond, eqb, leb, ltb, List, [], ◌∷◌, length, length-take, take, Option, Some, None, refl, sym, ap, ◌∙◌, subst, arith, ⊎_elim, filter, find, list_any, is_none, option_map, option_map_or, and_from, cases_Bool, eq-eqb, not-false, not_from_false, or_left, or_right, or_parts, nat_tests, name_fault, NAME_LIMIT, Authenticate, UserFault, NameInUse, Full, SessionsUsedUp, TOKENS, is_full, is_used_up, join_fault, next_number, next_slot, RosterState, are_tokens, has_name, is_long_token, Account, EDIT_LIMIT, fits, is_name, is_short, StateValue, account_named, has_account, is_named, is_numbered, case_of, first_standing, fits_from, named_from, all_off, ServerFull, UsernameInUse, reject_type_of, edit_to_join, limits_of_login, limits_of_seat, name_given, tokens_kept}
 
 -- ---- the tokens that are kept
 

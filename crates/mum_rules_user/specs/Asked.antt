@@ -1,26 +1,17 @@
 -- What the messages on users ask: which command each is, whom it names, and what it changes of a session.
 use Rattle.std.specs.Prelude.{ℕ, ◌==◌, ◌&&◌, ◌||◌, not, Bool, true, false, List, [], ◌++◌, map, filter, Option, is_some, unwrap_or}
-use Rattle.std.specs.List.{filter_map, list_all, list_any}
-use Rattle.std.specs.Option.{option_map, option_map_or}
-use Rattle.mum_base.specs.declared.number.ChannelId.{ChannelId}
-use Rattle.mum_base.specs.declared.number.SessionId.{SessionId}
-use Rattle.mum_base.specs.declared.number.TheConstants.ChannelId.{ROOT}
+use Rattle.std.specs.{List.filter_map, List.list_all, List.list_any, Option.option_map, Option.option_map_or}
+use Rattle.mum_base.specs.declared.number.{ChannelId.ChannelId, SessionId.SessionId, TheConstants.ChannelId.ROOT}
 use Rattle.mum_fields.specs.Table.{spelled}
-use Rattle.mum_msg_rule.specs.declared.target_block.TargetBlock.{TargetBlock}
-use Rattle.mum_msg_rule.specs.declared.text_message.TextMessage.{TextMessage}
-use Rattle.mum_msg_rule.specs.declared.voice_target.VoiceTarget.{VoiceTarget}
-use Rattle.mum_msg_rule.specs.Messages.{permission_query, text_message, voice_target}
-use Rattle.mum_msg_state.specs.declared.authenticate.Authenticate.{Authenticate}
-use Rattle.mum_msg_state.specs.declared.user_remove.UserRemove.{UserRemove}
+use Rattle.mum_users.specs.declared.target.{Target.Target as VoiceTargets, TargetItem.TargetItem}
+use Rattle.mum_users.specs.{Sessions.session_of, State.RosterState, State.has_number}
+use Rattle.mum_msg_state.specs.declared.{authenticate.Authenticate.Authenticate, user_remove.UserRemove.UserRemove}
 use Rattle.mum_msg_state.specs.declared.user_state.UserState.{UserState}
 use Rattle.mum_msg_state.specs.Messages.{authenticate, user_remove, user_state}
-use Rattle.mum_users.specs.declared.target.Target.{Target as VoiceTargets}
-use Rattle.mum_users.specs.declared.target.TargetItem.{TargetItem}
-use Rattle.mum_users.specs.Sessions.{session_of}
-use Rattle.mum_users.specs.State.{RosterState, has_number}
-use Rattle.mum_state.specs.Fits.{holds_of_given}
-use Rattle.mum_state.specs.Kinds.{is_empty}
-use Rattle.mum_state.specs.State.{StateValue}
+use Rattle.mum_msg_rule.specs.declared.{target_block.TargetBlock.TargetBlock, text_message.TextMessage.TextMessage}
+use Rattle.mum_msg_rule.specs.declared.voice_target.VoiceTarget.{VoiceTarget}
+use Rattle.mum_msg_rule.specs.Messages.{permission_query, text_message, voice_target}
+use Rattle.mum_state.specs.{Fits.holds_of_given, Kinds.is_empty, State.StateValue}
 use Rattle.mum_rules_tree.specs.Asked.{channel, channel_or_root, given_unless, is_number_there, text_or_empty}
 use Rattle.mum_rules_user.specs.declared.message.UserMessage.{UserMessage}
 use Rattle.mum_rules_user.specs.declared.message.UserMessage.TheVariants.{Join, User, Kick, Text, Target, Query, Leave}
@@ -43,7 +34,7 @@ session_numbered number = record { 0 = number }
 abbrev pub session_or : SessionId → Option ℕ → SessionId
 session_or actor number = option_map_or session_numbered number actor
 
--- who is logged in already gives its tokens anew; whoever asks for no channel asks for the root
+-- who is logged in already gives new tokens; whoever asks for no channel asks for the root
 abbrev pub command_of : SessionId → UserMessage → Command
 command_of actor (Join message version) = Command.renew message
 command_of actor (User message) = Command.change (session_or actor message.session) message
@@ -53,7 +44,7 @@ command_of actor (Target message) = Command.target message
 command_of actor (Query message) = Command.query (channel_or_root message.channel_id)
 command_of actor Leave = Command.leave
 
--- the payload of the message as this server spells it; a leave is no message
+-- the payload of the message as this server encodes it; a leave is no message
 unfoldable pub payload_of : UserMessage → List ℕ
 payload_of (Join message version) = spelled authenticate message
 payload_of (User message) = spelled user_state message
@@ -86,7 +77,8 @@ is_oneself actor session = actor.0 == session.0
 abbrev pub sets_own : UserState → Bool
 sets_own message =
     is_some message.self_mute || is_some message.self_deaf || is_some message.comment || is_some message.plugin_context
-    || is_some message.recording || not (is_empty message.listening_channel_add) || not (is_empty message.listening_channel_remove)
+    || is_some message.recording || not (is_empty message.listening_channel_add)
+    || not (is_empty message.listening_channel_remove)
 
 abbrev pub sets_own_of_another : SessionId → UserMessage → Bool
 sets_own_of_another actor (User message) = not (is_oneself actor (session_or actor message.session)) && sets_own message
@@ -104,7 +96,8 @@ channel_of roster session = option_map_or (λ user. user.channel) (session_of ro
 
 -- a channel that is the present one is no change
 abbrev pub new_channel : RosterState → SessionId → UserState → Option ChannelId
-new_channel roster session message = given_unless (λ there. there.0 == (channel_of roster session).0) (option_map channel message.channel_id)
+new_channel roster session message =
+    given_unless (λ there. there.0 == (channel_of roster session).0) (option_map channel message.channel_id)
 
 -- it lets the session speak where it is; that it may not is nothing that a message sets
 abbrev pub clears_suppression : UserState → Bool
@@ -122,7 +115,8 @@ channels numbers = map channel numbers
 
 -- the channels in which these sessions are, of those that are here
 abbrev pub channels_of : RosterState → List ℕ → List ChannelId
-channels_of roster numbers = filter_map (λ number. option_map (λ user. user.channel) (session_of roster (session_numbered number))) numbers
+channels_of roster numbers =
+    filter_map (λ number. option_map (λ user. user.channel) (session_of roster (session_numbered number))) numbers
 
 -- the channels of these numbers that are there
 abbrev pub channels_there : StateValue → List ℕ → List ChannelId

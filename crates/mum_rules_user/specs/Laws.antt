@@ -1,30 +1,20 @@
 -- What a verdict says of the tables, in words of its own.
 use Rattle.std.specs.Prelude.{◌≡◌, ℕ, ◌||◌, true, false, List, Option, Some, None, IsTrue}
 use Rattle.mum_base.specs.Codes.{deny_code, reason_code, reject_code}
-use Rattle.mum_base.specs.declared.number.ChannelId.{ChannelId}
-use Rattle.mum_base.specs.declared.number.SessionId.{SessionId}
-use Rattle.mum_base.specs.declared.outcome.DenyType.{DenyType}
-use Rattle.mum_base.specs.declared.outcome.Reason.{Reason}
-use Rattle.mum_base.specs.declared.outcome.RejectType.{RejectType}
-use Rattle.mum_base.specs.declared.perm.Perm.{Perm}
+use Rattle.mum_base.specs.declared.{number.ChannelId.ChannelId, number.SessionId.SessionId, outcome.DenyType.DenyType}
+use Rattle.mum_base.specs.declared.{outcome.Reason.Reason, outcome.RejectType.RejectType, perm.Perm.Perm}
 use Rattle.mum_base.specs.declared.perm.TheConstants.Perm.{ENTER, MOVE, MUTE_DEAFEN}
-use Rattle.mum_msg_state.specs.declared.authenticate.Authenticate.{Authenticate}
-use Rattle.mum_msg_state.specs.declared.user_remove.UserRemove.{UserRemove}
+use Rattle.mum_msg_state.specs.declared.{authenticate.Authenticate.Authenticate, user_remove.UserRemove.UserRemove}
 use Rattle.mum_msg_state.specs.declared.user_state.UserState.{UserState}
-use Rattle.mum_state.specs.declared.account.Account.{Account}
-use Rattle.mum_state.specs.declared.edit.Edit.{Edit}
+use Rattle.mum_state.specs.declared.{account.Account.Account, edit.Edit.Edit}
 use Rattle.mum_state.specs.declared.verdict.Verdict.TheVariants.{Accepted, Ignored, Lacks, Refused, Rejected}
-use Rattle.mum_state.specs.Proper.{IsProper}
-use Rattle.mum_state.specs.State.{StateValue, account_named}
-use Rattle.mum_rules_tree.specs.Decision.{Need, is_open, way}
+use Rattle.mum_state.specs.{Proper.IsProper, State.StateValue, State.account_named}
+use Rattle.mum_rules_tree.specs.{Decision.Need, Decision.is_open, Decision.way, Verdict.actor_named}
 use Rattle.mum_rules_tree.specs.Laws.{AllMet, IsAcceptedOrAnswered, IsFirstMissing, IsFirstStanding, NoneStands}
-use Rattle.mum_rules_tree.specs.Verdict.{actor_named}
 use Rattle.mum_rules_user.specs.Asked.{channel_of, command_of, is_oneself, new_channel, rules_speech, session_or, sets_own}
-use Rattle.mum_rules_user.specs.Limits.{is_super_user, limits}
-use Rattle.mum_rules_user.specs.Login.{is_digest_of, limits_of_login, name_given, password_given}
-use Rattle.mum_rules_user.specs.Needs.{needs}
-use Rattle.mum_rules_user.specs.Reasons.{reasons}
+use Rattle.mum_rules_user.specs.{Limits.is_super_user, Limits.limits, Needs.needs, Reasons.reasons}
 use Rattle.mum_rules_user.specs.Verdict.{actor_for, user_verdict}
+use Rattle.mum_rules_user.specs.Login.{is_digest_of, limits_of_login, name_given, password_given}
 use Rattle.mum_rules_user.specs.declared.message.UserMessage.{UserMessage}
 use Rattle.mum_rules_user.specs.declared.message.UserMessage.TheVariants.{Join, Kick, User}
 
@@ -44,7 +34,8 @@ abbrev pub AcceptsWhereNothingStands : Type 0
 AcceptsWhereNothingStands =
     (state : StateValue) (actor : SessionId) (message : UserMessage) (edit : Edit)
     → user_verdict state (Some actor) message ≡ Accepted edit
-    → NoneStands (reasons state (Some actor) message) × AllMet state (needs_of state actor message) × NoneStands (limits state actor (command_of actor message))
+    → NoneStands (reasons state (Some actor) message) × AllMet state (needs_of state actor message)
+    × NoneStands (limits state actor (command_of actor message))
 
 -- a message of a session is accepted or answered where no reason, no need and no limit is against it
 abbrev pub GrantsWhereNothingStands : Type 0
@@ -61,7 +52,7 @@ IgnoresForFirstReason =
     → user_verdict state actor message ≡ Ignored why
     → (reason : Reason) × (why ≡ reason_code reason) × IsFirstStanding (reasons state actor message) reason
 
--- whoever has no session is let do nothing but log in, and that where no reason and no limit stands against it
+-- whoever has no session is let do nothing but log in, and that where no reason and no limit applies
 abbrev pub LogsInWhereNothingStands : Type 0
 LogsInWhereNothingStands =
     (state : StateValue) (message : UserMessage) (edit : Edit)
@@ -99,7 +90,8 @@ RefusesForFirstLimit =
     (state : StateValue) (actor : SessionId) (message : UserMessage) (kind : ℕ)
     → user_verdict state (Some actor) message ≡ Refused kind
     → NoneStands (reasons state (Some actor) message) × AllMet state (needs_of state actor message)
-    × ((limit : DenyType) × (kind ≡ deny_code limit) × IsFirstStanding (limits state actor (command_of actor message)) limit)
+    × ((limit : DenyType) × (kind ≡ deny_code limit)
+    × IsFirstStanding (limits state actor (command_of actor message)) limit)
 
 -- a rejection of a login names the first limit that applies
 abbrev pub RejectsForFirstLimit : Type 0
@@ -116,7 +108,8 @@ EntersWherePermitted =
     → user_verdict state (Some actor) (User message) ≡ Accepted edit
     → is_oneself actor (session_or actor message.session) ≡ true
     → new_channel state.roster (session_or actor message.session) message ≡ Some there
-    → IsTrue (is_open state (way (actor_for state actor (User message)) ENTER there) || is_open state (way (actor_for state actor (User message)) MOVE there))
+    → IsTrue (is_open state (way (actor_for state actor (User message)) ENTER there)
+    || is_open state (way (actor_for state actor (User message)) MOVE there))
 
 -- whoever moves another session has Move in its channel, and has Move in the new one, or the other has Enter there
 abbrev pub MovesWherePermitted : Type 0
@@ -125,8 +118,10 @@ MovesWherePermitted =
     → user_verdict state (Some actor) (User message) ≡ Accepted edit
     → is_oneself actor (session_or actor message.session) ≡ false
     → new_channel state.roster (session_or actor message.session) message ≡ Some there
-    → IsTrue (is_open state (way (actor_for state actor (User message)) MOVE (channel_of state.roster (session_or actor message.session))))
-    × IsTrue (is_open state (way (actor_for state actor (User message)) MOVE there) || is_open state (way (actor_named state (session_or actor message.session)) ENTER there))
+    → IsTrue (is_open state
+    (way (actor_for state actor (User message)) MOVE (channel_of state.roster (session_or actor message.session))))
+    × IsTrue (is_open state (way (actor_for state actor (User message)) MOVE there)
+    || is_open state (way (actor_named state (session_or actor message.session)) ENTER there))
 
 -- whoever mutes or deafens a session, lets it speak or gives it priority has MuteDeafen in its channel
 abbrev pub RulesSpeechWherePermitted : Type 0
@@ -134,7 +129,9 @@ RulesSpeechWherePermitted =
     (state : StateValue) (actor : SessionId) (message : UserState) (edit : Edit)
     → user_verdict state (Some actor) (User message) ≡ Accepted edit
     → rules_speech message ≡ true
-    → IsTrue (is_open state (way (actor_for state actor (User message)) MUTE_DEAFEN (channel_of state.roster (session_or actor message.session))))
+    → IsTrue (is_open state
+    (way (actor_for state actor (User message)) MUTE_DEAFEN
+    (channel_of state.roster (session_or actor message.session))))
 
 -- nobody sets for another session what each session sets for itself
 abbrev pub LeavesOwnToOthers : Type 0

@@ -1,22 +1,16 @@
 -- Who may log in, and with which tokens.
 use Rattle.std.specs.Prelude.{ℕ, ◌||◌, not, nat_lt, Bool, false, List, [], ◌∷◌, filter, take, Option}
-use Rattle.std.specs.List.{list_any}
-use Rattle.std.specs.Option.{option_map, option_map_or}
-use Rattle.std.specs.Str.{bytes_eq}
+use Rattle.std.specs.{List.list_any, Option.option_map, Option.option_map_or, Str.bytes_eq}
 use Rattle.sha2.specs.Sha256.{sha256}
-use Rattle.mum_msg_state.specs.declared.authenticate.Authenticate.{Authenticate}
+use Rattle.mum_base.specs.declared.outcome.RejectType.{RejectType}
+use Rattle.mum_base.specs.declared.outcome.RejectType.TheVariants.{WrongVersion, InvalidUsername, WrongUserPW, WrongServerPW, UsernameInUse, ServerFull}
 use Rattle.mum_users.specs.declared.user.TheConstants.{TOKENS}
 use Rattle.mum_users.specs.Sessions.{is_full, is_used_up, next_number, next_slot}
 use Rattle.mum_users.specs.State.{RosterState, has_name, is_long_token}
-use Rattle.mum_state.specs.declared.account.Account.{Account}
-use Rattle.mum_state.specs.declared.edit.Edit.{Edit}
-use Rattle.mum_state.specs.declared.edit.Edit.TheVariants.{Join}
-use Rattle.mum_state.specs.Proper.{is_name}
-use Rattle.mum_state.specs.State.{StateValue, account_named}
-use Rattle.mum_rules_tree.specs.Asked.{text_or_empty}
-use Rattle.mum_rules_tree.specs.Decision.{Case, case_of}
-use Rattle.mum_base.specs.declared.outcome.RejectType.{RejectType}
-use Rattle.mum_base.specs.declared.outcome.RejectType.TheVariants.{WrongVersion, InvalidUsername, WrongUserPW, WrongServerPW, UsernameInUse, ServerFull}
+use Rattle.mum_msg_state.specs.declared.authenticate.Authenticate.{Authenticate}
+use Rattle.mum_state.specs.declared.{account.Account.Account, edit.Edit.Edit, edit.Edit.TheVariants.Join}
+use Rattle.mum_state.specs.{Proper.is_name, State.StateValue, State.account_named}
+use Rattle.mum_rules_tree.specs.{Asked.text_or_empty, Decision.Case, Decision.case_of}
 use Rattle.mum_rules_user.specs.declared.reject.TheConstants.{OLDEST_VERSION}
 
 -- the tokens at the first places count, and then those that are too long fall out
@@ -30,7 +24,7 @@ name_given message = text_or_empty message.username
 abbrev pub password_given : Authenticate → List ℕ
 password_given message = text_or_empty message.password
 
--- a version was told, and it is older than this server speaks
+-- a version was sent, and it is older than this server speaks
 abbrev pub is_old : Option ℕ → Bool
 is_old version = option_map_or (λ number. nat_lt number OLDEST_VERSION) version false
 

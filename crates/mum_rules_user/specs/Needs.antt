@@ -1,22 +1,19 @@
 -- What each command on users needs, in order: the permissions of the Murmur manual's "ACL".
 use Rattle.std.specs.Prelude.{List, [], ◌∷◌, ◌++◌, Bool, map, unwrap_or, false, if◌then◌else◌}
 use Rattle.std.specs.Option.{option_map_or}
-use Rattle.mum_base.specs.declared.number.ChannelId.{ChannelId}
-use Rattle.mum_base.specs.declared.number.SessionId.{SessionId}
-use Rattle.mum_base.specs.declared.number.TheConstants.ChannelId.{ROOT}
+use Rattle.mum_base.specs.declared.number.{ChannelId.ChannelId, SessionId.SessionId, TheConstants.ChannelId.ROOT}
 use Rattle.mum_base.specs.declared.perm.Perm.{Perm}
 use Rattle.mum_base.specs.declared.perm.TheConstants.Perm.{BAN, ENTER, KICK, LISTEN, MOVE, MUTE_DEAFEN, TEXT_MESSAGE}
-use Rattle.mum_msg_state.specs.declared.user_remove.UserRemove.{UserRemove}
-use Rattle.mum_msg_state.specs.declared.user_state.UserState.{UserState}
 use Rattle.mum_policy.specs.Member.{Actor}
+use Rattle.mum_msg_state.specs.declared.{user_remove.UserRemove.UserRemove, user_state.UserState.UserState}
 use Rattle.mum_state.specs.State.{StateValue}
-use Rattle.mum_rules_tree.specs.Decision.{Need, need, way}
-use Rattle.mum_rules_tree.specs.Verdict.{actor_named}
+use Rattle.mum_rules_tree.specs.{Decision.Need, Decision.need, Decision.way, Verdict.actor_named}
 use Rattle.mum_rules_user.specs.Asked.{Command, channel_of, channels, channels_told, is_oneself, new_channel, rules_speech}
 
 -- a need with two ways
 abbrev pub either_way : Perm → Actor → Perm → Actor → ChannelId → Need
-either_way first who second other channel = record { first = way who first channel; others = way other second channel ∷ [] }
+either_way first who second other channel =
+    record { first = way who first channel; others = way other second channel ∷ [] }
 
 -- Enter or Move there
 abbrev pub needs_to_enter : Actor → ChannelId → List Need
@@ -54,7 +51,8 @@ needs_to_kick who message = either_way KICK who BAN who ROOT ∷ (if is_ban mess
 abbrev pub needs : StateValue → Actor → SessionId → Command → List Need
 needs state who actor (Command.renew message) = []
 needs state who actor (Command.change session message) =
-    needs_to_move state who actor session message ++ needs_to_rule_speech state who session message ++ needs_to_listen who message
+    needs_to_move state who actor session message ++ needs_to_rule_speech state who session message
+    ++ needs_to_listen who message
 needs state who actor (Command.kick session message) = needs_to_kick who message
 needs state who actor (Command.text message) = map (need who TEXT_MESSAGE) (channels_told state message)
 needs state who actor (Command.target message) = []

@@ -1,16 +1,13 @@
 -- Why a message on users is ignored.
 use Rattle.std.specs.Prelude.{◌&&◌, ◌||◌, not, nat_lt, Bool, true, false, List, [], ◌∷◌, length, Option, is_none}
 use Rattle.std.specs.Option.{option_map_or}
-use Rattle.mum_base.specs.declared.number.SessionId.{SessionId}
-use Rattle.mum_state.specs.State.{StateValue}
-use Rattle.mum_rules_tree.specs.Decision.{Case, case_of}
-use Rattle.mum_rules_tree.specs.Reasons.{is_gone, takes_no_edits}
-use Rattle.mum_base.specs.declared.outcome.Reason.{Reason}
+use Rattle.mum_base.specs.declared.{number.SessionId.SessionId, outcome.Reason.Reason}
 use Rattle.mum_base.specs.declared.outcome.Reason.TheVariants.{Gone, NotLoggedIn, TooLong, NotThere, OfAnother, EmptyText}
+use Rattle.mum_state.specs.State.{StateValue}
+use Rattle.mum_rules_tree.specs.{Decision.Case, Decision.case_of, Reasons.is_gone, Reasons.takes_no_edits}
 use Rattle.mum_rules_tree.specs.declared.reason.TheConstants.{COMMAND_LIMIT}
 use Rattle.mum_rules_user.specs.Asked.{is_empty_text, names_there, payload_of, sets_own_of_another}
-use Rattle.mum_rules_user.specs.declared.message.UserMessage.{UserMessage}
-use Rattle.mum_rules_user.specs.declared.message.UserMessage.TheVariants.{Join, Leave}
+use Rattle.mum_rules_user.specs.declared.message.UserMessage.{UserMessage, TheVariants.Join, TheVariants.Leave}
 
 abbrev pub is_login : UserMessage → Bool
 is_login (Join message version) = true

@@ -27,7 +27,7 @@ use mum_users::Roster;
 use mum_users::user::is_context;
 use std::alloc::Global;
 
-/// What is needed, in order: for another channel, for who is heard, for listening.
+// What is needed, in order: for another channel, for who is heard, for listening.
 fn need_for_change(
     state: &State,
     who: &Who<'_>,
@@ -51,14 +51,14 @@ fn is_context_if_given(context: &Option<Octets>) -> bool
     }
 }
 
-/// Whether the comment or the plugin context is too long.
+// Whether the comment or the plugin context is too long.
 fn has_long_text(message: &UserState) -> bool
     ensures { result ≡ has_long_text message.now }
 {
     !is_text_given(message.comment.as_ref()) || !is_context_if_given(&message.plugin_context)
 }
 
-/// The first limit that stands, where these are the channels to listen to.
+// The first limit that applies, where these are the channels to listen to.
 fn limit_of_change(
     alloc: Global,
     state: &State,
@@ -125,7 +125,7 @@ fn edit_to_change(
     })
 }
 
-/// What is decided of other parts of a session that is here.
+// What is decided of other parts of a session that is here.
 pub(crate) fn decide_change(
     alloc: Global,
     state: &State,

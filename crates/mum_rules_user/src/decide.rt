@@ -26,7 +26,7 @@ use mum_state::{Edit, State, Verdict, home_of, who_is, who_with};
 use mum_users::User;
 use std::alloc::Global;
 
-/// What is decided of a message of whoever asks, where the session that it names is here.
+// What is decided of a message of the actor, where the session that it names is here.
 fn decide_command(
     alloc: Global,
     state: &State,
@@ -51,7 +51,7 @@ fn decide_command(
     }
 }
 
-/// The same, where the session asks with these tokens too, for this once.
+// The same, where the session asks with these tokens too, for this once.
 fn decide_with_tokens(
     alloc: Global,
     state: &State,
@@ -75,7 +75,7 @@ fn decide_with_tokens(
     decide_command(alloc, state, &who, message)
 }
 
-/// The tokens that a message brings for itself alone.
+// The tokens that a message brings for itself alone.
 fn tokens_brought(message: &UserMessage) -> &[Text]
     ensures { result.now ≡ tokens_brought message.now }
 {
@@ -85,7 +85,7 @@ fn tokens_brought(message: &UserMessage) -> &[Text]
     }
 }
 
-/// What is decided of a message of a session.
+// What is decided of a message of a session.
 fn decide_for(
     alloc: Global,
     state: &State,
@@ -108,7 +108,7 @@ fn decide_for(
     decide_with_tokens(alloc, state, user, message, tokens_brought(message))
 }
 
-/// What is decided of a message of a connection that has no session.
+// What is decided of a message of a connection that has no session.
 fn decide_for_nobody(
     alloc: Global,
     state: &State,
@@ -135,10 +135,10 @@ fn decide_for_nobody(
 /// in this order.
 ///
 /// It is ignored where the session is gone or no edit is taken any more, where a connection without a
-/// session asks for anything but a login, where its payload as this server spells it has more than 65,000
+/// session asks for anything but a login, where its payload as this server encodes it has more than 65,000
 /// bytes, where a session or a channel that it names is not there (those of a text or of a voice target
 /// need not be), where it sets for another session what each sets for itself, or where a text is empty.
-/// Then the first permission that is missing is named, with its channel; then the first limit that stands,
+/// Then the first permission that is missing is named, with its channel; then the first limit that applies,
 /// by its type. Else it is an edit, which fits the state, or the answer to a query. The state stays as it
 /// is.
 pub fn decide_user(

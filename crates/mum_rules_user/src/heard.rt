@@ -16,7 +16,7 @@ use mum_rules_tree::{COMMAND_LIMIT, are_there, is_there_if_named};
 use mum_state::State;
 use mum_users::Roster;
 
-// How many bytes the payload of a message has as this server spells it, or 2^64 - 1 where they are more.
+// How many bytes the payload of a message has as this server encodes it, or 2^64 - 1 where they are more.
 fn payload_length(message: &UserMessage) -> u64
     ensures { result ≡ cut (length (payload_of message.now)) }
 {
@@ -31,14 +31,14 @@ fn payload_length(message: &UserMessage) -> u64
     }
 }
 
-/// Whether the payload of a message, as this server spells it, has more bytes than a command may have.
+// Whether the payload of a message, as this server encodes it, has more bytes than a command may have.
 pub(crate) fn is_too_long(message: &UserMessage) -> bool
     ensures { result ≡ nat_lt COMMAND_LIMIT (length (payload_of message.now)) }
 {
     payload_length(message) > COMMAND_LIMIT as u64
 }
 
-/// Whether the session that is named, if one is, is here.
+// Whether the session that is named, if one is, is here.
 fn is_here_if_named(roster: &Roster, number: Option<u32>) -> bool
     ensures { result ≡ holds_of_given (is_here roster.now) number }
 {
@@ -48,7 +48,7 @@ fn is_here_if_named(roster: &Roster, number: Option<u32>) -> bool
     }
 }
 
-/// Whether each session and each channel that a message names is there.
+// Whether each session and each channel that a message names is there.
 fn names_there(state: &State, message: &UserMessage) -> bool
     ensures { result ≡ names_there state.now message.now }
 {
@@ -69,7 +69,7 @@ fn names_there(state: &State, message: &UserMessage) -> bool
     }
 }
 
-/// Whether it sets what each session sets for itself.
+// Whether it sets what each session sets for itself.
 fn sets_own(message: &UserState) -> bool
     ensures { result ≡ sets_own message.now }
 {
@@ -105,7 +105,7 @@ fn is_empty_text(message: &UserMessage) -> bool
     }
 }
 
-/// The first reason to ignore a message of a session that is here, while edits are taken.
+// The first reason to ignore a message of a session that is here, while edits are taken.
 pub(crate) fn reason_to_ignore(
     state: &State,
     actor: SessionId,

@@ -1,4 +1,4 @@
-//! Who is put out.
+//! Who is kicked.
 
 ghost use Rattle.std.specs.Prelude.{◌≡◌, IfOk};
 ghost use Rattle.mum_policy.specs.Member.{actor_of};
@@ -22,7 +22,7 @@ fn is_ban(message: &UserRemove) -> bool
     message.ban.unwrap_or(false)
 }
 
-/// Kick or Ban on the root, of which a denial names Kick; and then, for a ban, Ban.
+// Kick or Ban on the root, of which a denial names Kick; and then, for a ban, Ban.
 fn need_to_kick(state: &State, who: &Who<'_>, message: &UserRemove) -> Result<(), Lack>
     ensures { result ≡ all_met state.now (needs_to_kick (actor_of who.now) message.now) }
 {
@@ -39,7 +39,7 @@ fn need_to_kick(state: &State, who: &Who<'_>, message: &UserRemove) -> Result<()
     }
 }
 
-/// What is decided of putting somebody out.
+// What is decided of putting somebody out.
 pub(crate) fn decide_kick(
     alloc: Global,
     state: &State,

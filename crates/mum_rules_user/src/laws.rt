@@ -24,7 +24,7 @@ pub fn ignores_for_first_reason()
     ensures { IgnoresForFirstReason }
 {}
 
-/// Whoever has no session is let do nothing but log in, and that only where no reason and no limit stands
+/// Whoever has no session is let do nothing but log in, and that only where no reason and no limit speaks
 /// against it.
 pub fn logs_in_where_nothing_stands()
     ensures { LogsInWhereNothingStands }
@@ -45,13 +45,13 @@ pub fn keeps_super_user()
     ensures { KeepsSuperUser }
 {}
 
-/// A refusal names the first limit that stands: there is no reason to ignore the message, and each need
+/// A refusal names the first limit that applies: there is no reason to ignore the message, and each need
 /// is met.
 pub fn refuses_for_first_limit()
     ensures { RefusesForFirstLimit }
 {}
 
-/// A rejection of a login names the first limit that stands, whatever else does.
+/// A rejection of a login names the first limit that applies, whatever else does.
 pub fn rejects_for_first_limit()
     ensures { RejectsForFirstLimit }
 {}

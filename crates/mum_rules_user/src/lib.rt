@@ -1,6 +1,6 @@
 //! What is decided of the messages on users: logins, moves, flags, listening, kicks, texts, voice targets,
 //! queries for permissions, and of the end of a connection. Which command each is, what it needs, what
-//! limits it and what it is then stand as tables in `specs/`; the order of decisions is that of
+//! limits it and what it is then are tables in `specs/`; the order of decisions is that of
 //! `mum_rules_tree`.
 #![tactic(auto)]
 

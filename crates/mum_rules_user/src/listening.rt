@@ -18,7 +18,7 @@ use mum_state::State;
 use mum_users::{ChannelList, FlagChange, Roster, UserChange, UserFault};
 use std::alloc::Global;
 
-/// No flag changes.
+// No flag changes.
 const NO_FLAGS: FlagChange = FlagChange {
     mute: None,
     deaf: None,
@@ -29,7 +29,7 @@ const NO_FLAGS: FlagChange = FlagChange {
     recording: None,
 };
 
-/// Listen in each of these channels.
+// Listen in each of these channels.
 pub(crate) fn need_to_listen(state: &State, who: &Who<'_>, numbers: &[u32]) -> Result<(), Lack>
     ensures { result ≡ all_met state.now
         (map (need (actor_of who.now) LISTEN) (channels numbers.now)) }
@@ -47,7 +47,7 @@ pub(crate) fn need_to_listen(state: &State, who: &Who<'_>, numbers: &[u32]) -> R
     Ok(())
 }
 
-/// Nothing changes but that a session listens to these channels too, and leaves those.
+// Nothing changes but that a session listens to these channels too, and leaves those.
 fn listening_too<'a>(listen: &'a [ChannelId], unlisten: &'a ChannelList) -> UserChange<'a>
     ensures listen { (user_edit_of result).listen ≡ listen.now }
     ensures unlisten { (user_edit_of result).unlisten ≡ unlisten.now }
@@ -62,7 +62,7 @@ fn listening_too<'a>(listen: &'a [ChannelId], unlisten: &'a ChannelList) -> User
     }
 }
 
-/// For what listening is denied that the roster would refuse.
+// For what listening is denied that the roster would refuse.
 fn listening_type_of(fault: UserFault) -> DenyType
     ensures { result ≡ listening_type_of fault }
 {
@@ -73,8 +73,8 @@ fn listening_type_of(fault: UserFault) -> DenyType
     }
 }
 
-/// The first limit that stands against listening to these channels too. What the session leaves by the
-/// same message does not make room.
+// The first limit that forbids listening to these channels too. What the session leaves by the
+// same message does not make room.
 pub(crate) fn limit_of_listening(
     alloc: Global,
     roster: &Roster,

@@ -20,7 +20,7 @@ use mum_users::{Roster, UserFault};
 use sha2::{Digest, Sha256};
 use std::alloc::Global;
 
-/// The tokens of the first 64 that are not too long.
+// The tokens of the first 64 that are not too long.
 fn tokens_kept(alloc: Global, given: &[Text]) -> Result<Items<Text>, OutOfMemory>
     ensures { IfOk result (λ kept. kept ≡ tokens_kept given.now) }
 {
@@ -34,7 +34,7 @@ fn tokens_kept(alloc: Global, given: &[Text]) -> Result<Items<Text>, OutOfMemory
     Ok(Items::from_vec(kept))
 }
 
-/// Whether a client told a version that is too old.
+// Whether a client sent a version that is too old.
 fn is_old(version: Option<u32>) -> bool
     ensures { result ≡ is_old version }
 {
@@ -44,14 +44,14 @@ fn is_old(version: Option<u32>) -> bool
     }
 }
 
-/// Whether the digest is that of the password.
+// Whether the digest is that of the password.
 fn is_digest_of(password: &str, digest: &[u8; 32]) -> bool
     ensures { result ≡ is_digest_of password.now digest.now }
 {
     Sha256::digest(password) == *digest
 }
 
-/// Whether the name is an account's, and this is not its password.
+// Whether the name is an account's, and this is not its password.
 fn is_not_the_owner(account: Option<&Account>, password: &str) -> bool
     ensures { result ≡ is_not_the_owner (option_copied account.entry) password.now }
 {
@@ -61,7 +61,7 @@ fn is_not_the_owner(account: Option<&Account>, password: &str) -> bool
     }
 }
 
-/// Whether the name is no account's, the server has a password, and this is not it.
+// Whether the name is no account's, the server has a password, and this is not it.
 fn is_no_guest(account: Option<&Account>, digest: &Option<[u8; 32]>, password: &str) -> bool
     ensures { result ≡ is_no_guest (option_copied account.entry) digest.now password.now }
 {
@@ -71,7 +71,7 @@ fn is_no_guest(account: Option<&Account>, digest: &Option<[u8; 32]>, password: &
     }
 }
 
-/// For what a login is refused that the roster would refuse.
+// For what a login is refused that the roster would refuse.
 fn reject_type_of(fault: UserFault) -> RejectType
     ensures { result ≡ reject_type_of fault }
 {
@@ -81,7 +81,7 @@ fn reject_type_of(fault: UserFault) -> RejectType
     }
 }
 
-/// For what the roster refuses it first.
+// For what the roster refuses it first.
 fn limit_of_seat(roster: &Roster, name: &str) -> Option<RejectType>
     ensures { result ≡ first_standing (limits_of_seat roster.now name.now) }
 {
@@ -91,7 +91,7 @@ fn limit_of_seat(roster: &Roster, name: &str) -> Option<RejectType>
     }
 }
 
-/// For what a login is refused first.
+// For what a login is refused first.
 fn limit_of_login(state: &State, version: Option<u32>, message: &Authenticate) -> Option<RejectType>
     ensures { result ≡ first_standing (limits_of_login state.now version message.now) }
 {
@@ -113,7 +113,7 @@ fn limit_of_login(state: &State, version: Option<u32>, message: &Authenticate) -
     limit_of_seat(state.roster(), name)
 }
 
-/// The number of the account of a name, if it has one.
+// The number of the account of a name, if it has one.
 fn account_number(state: &State, name: &str) -> Option<AccountId>
     ensures { result ≡ option_map (λ account. account.account) (account_named state.now name.now) }
 {
@@ -143,7 +143,7 @@ fn edit_to_join(
     })
 }
 
-/// What is decided of a login by a connection without a session.
+// What is decided of a login by a connection without a session.
 pub(crate) fn decide_login(
     alloc: Global,
     state: &State,
@@ -161,7 +161,7 @@ pub(crate) fn decide_login(
     }
 }
 
-/// What is decided of a login by a session: its tokens anew. It needs nothing, and nothing limits it.
+// What is decided of a login by a session: its new tokens. It needs nothing, and nothing limits it.
 pub(crate) fn decide_renewal(
     alloc: Global,
     actor: SessionId,

@@ -19,7 +19,7 @@ use mum_rules_tree::{Lack, may, need};
 use mum_state::{State, home_of, who_is};
 use mum_users::{Roster, User};
 
-/// The channel that is given, where the session is in another.
+// The channel that is given, where the session is in another.
 pub(crate) fn new_channel(
     roster: &Roster,
     session: SessionId,
@@ -35,7 +35,7 @@ pub(crate) fn new_channel(
     }
 }
 
-/// Whether whoever asks has one of two permissions in a channel. The lists on its path are read once.
+// Whether the actor has one of two permissions in a channel. The lists on its path are read once.
 pub(crate) fn may_either(
     state: &State,
     who: &Who<'_>,
@@ -52,7 +52,7 @@ pub(crate) fn may_either(
     }
 }
 
-/// Enter or Move there. A denial names Enter.
+// Enter or Move there. A denial names Enter.
 fn need_to_enter(state: &State, who: &Who<'_>, there: ChannelId) -> Result<(), Lack>
     ensures { result ≡ all_met state.now (needs_to_enter (actor_of who.now) there) }
 {
@@ -66,7 +66,7 @@ fn need_to_enter(state: &State, who: &Who<'_>, there: ChannelId) -> Result<(), L
     }
 }
 
-/// Move where the other is, and then Move there, or Enter of the other. A denial names Move.
+// Move where the other is, and then Move there, or Enter of the other. A denial names Move.
 fn need_to_bring(
     state: &State,
     who: &Who<'_>,
@@ -87,7 +87,7 @@ fn need_to_bring(
     }
 }
 
-/// Whoever is gone is in the root and has nothing.
+// Whoever is gone is in the root and has nothing.
 fn nobody<'a>(session: SessionId) -> Who<'a>
     ensures actor { actor_of result ≡ nobody }
     ensures channel { result.channel ≡ ROOT }
@@ -101,7 +101,7 @@ fn nobody<'a>(session: SessionId) -> Who<'a>
     }
 }
 
-/// What bringing a session to another channel needs.
+// What bringing a session to another channel needs.
 fn need_to_bring_named(
     state: &State,
     who: &Who<'_>,
@@ -120,7 +120,7 @@ fn need_to_bring_named(
     }
 }
 
-/// What another channel needs.
+// What another channel needs.
 pub(crate) fn need_to_move(
     state: &State,
     who: &Who<'_>,
@@ -155,7 +155,7 @@ fn member_count(users: &[User], id: ChannelId) -> usize
     users.iter().filter(|user| user.channel.0 == id.0).count()
 }
 
-/// Whether a channel takes so many users at most, and as many are in it.
+// Whether a channel takes at most n users, and n are in it.
 fn takes_nobody(state: &State, id: ChannelId) -> bool
     ensures { result ≡ takes_nobody state.now id }
 {
@@ -163,7 +163,7 @@ fn takes_nobody(state: &State, id: ChannelId) -> bool
     room != 0 && room as usize <= member_count(state.roster().users(), id)
 }
 
-/// Whether the channel that is entered, if one is, takes nobody more.
+// Whether the channel that is entered, if one is, takes nobody more.
 pub(crate) fn is_full_for(state: &State, there: Option<ChannelId>) -> bool
     ensures { result ≡ option_map_or (takes_nobody state.now) there false }
 {

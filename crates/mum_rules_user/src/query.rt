@@ -16,7 +16,7 @@ use mum_rules_tree::channel_or_root;
 use mum_state::{State, Verdict};
 use std::alloc::Global;
 
-/// The frame that tells of the permissions in a channel.
+// The frame that reports the permissions in a channel.
 fn answer_frame(alloc: Global, id: ChannelId, held: Perm) -> Result<Frame, OutOfMemory>
     ensures { IfOk result (λ frame. frame ≡ answer_frame id held.0) }
 {
@@ -31,7 +31,7 @@ fn answer_frame(alloc: Global, id: ChannelId, held: Perm) -> Result<Frame, OutOf
     })
 }
 
-/// What is decided of a query. It needs nothing.
+// What is decided of a query. It needs nothing.
 pub(crate) fn decide_query(
     alloc: Global,
     state: &State,

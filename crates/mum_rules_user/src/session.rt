@@ -9,14 +9,14 @@ use mum_rules_tree::channel_numbered;
 use mum_users::{ChannelList, Roster};
 use std::alloc::Global;
 
-/// The session of a number.
+// The session of a number.
 pub(crate) fn session_numbered(number: u32) -> SessionId
     ensures { result ≡ session_numbered number }
 {
     SessionId(number)
 }
 
-/// The session of a number, or whoever asks where a message has none.
+// The session of a number, or the actor where a message has none.
 pub(crate) fn session_or(actor: SessionId, number: Option<u32>) -> SessionId
     ensures { result ≡ session_or actor number }
 {
@@ -38,7 +38,7 @@ pub(crate) fn is_oneself(actor: SessionId, session: SessionId) -> bool
     actor.0 == session.0
 }
 
-/// The channel in which a session is; the root where the session is not here.
+// The channel in which a session is; the root where the session is not here.
 pub(crate) fn channel_of(roster: &Roster, session: SessionId) -> ChannelId
     ensures { result ≡ channel_of roster.now session }
 {
@@ -57,14 +57,14 @@ fn is_super_user(roster: &Roster, session: SessionId) -> bool
     }
 }
 
-/// Whether it is SuperUser, and somebody else asks.
+// Whether it is SuperUser, and somebody else asks.
 pub(crate) fn is_protected(roster: &Roster, actor: SessionId, session: SessionId) -> bool
     ensures { result ≡ is_protected roster.now actor session }
 {
     !is_oneself(actor, session) && is_super_user(roster, session)
 }
 
-/// The channels of these numbers, in their order.
+// The channels of these numbers, in their order.
 pub(crate) fn channels(alloc: Global, numbers: &[u32]) -> Result<Items<ChannelId>, OutOfMemory>
     ensures { IfOk result (λ listed. listed ≡ channels numbers.now) }
 {
@@ -75,7 +75,7 @@ pub(crate) fn channels(alloc: Global, numbers: &[u32]) -> Result<Items<ChannelId
     Ok(Items::from_vec(listed))
 }
 
-/// The channels of these numbers, in their order, as a list in which one is looked up.
+// The channels of these numbers, in their order, as a list in which one is looked up.
 pub(crate) fn channel_list(alloc: Global, numbers: &[u32]) -> Result<ChannelList, OutOfMemory>
     ensures { IfOk result (λ list. list ≡ channels numbers.now) }
 {

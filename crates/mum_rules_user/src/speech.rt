@@ -13,14 +13,14 @@ use mum_policy::Who;
 use mum_rules_tree::{Lack, need};
 use mum_state::State;
 
-/// Whether it lets the session speak where it is.
+// Whether it lets the session speak where it is.
 pub(crate) fn clears_suppression(message: &UserState) -> bool
     ensures { result ≡ clears_suppression message.now }
 {
     !message.suppress.unwrap_or(true)
 }
 
-/// Whether it mutes, deafens, lets speak, or gives priority.
+// Whether it mutes, deafens, lets speak, or gives priority.
 pub(crate) fn rules_speech(message: &UserState) -> bool
     ensures { result ≡ rules_speech message.now }
 {
@@ -30,7 +30,7 @@ pub(crate) fn rules_speech(message: &UserState) -> bool
         || message.priority_speaker.is_some()
 }
 
-/// MuteDeafen in the channel in which the session is.
+// MuteDeafen in the channel in which the session is.
 pub(crate) fn need_to_rule_speech(
     state: &State,
     who: &Who<'_>,

@@ -50,14 +50,14 @@ fn target_asked(alloc: Global, message: &VoiceTarget) -> Result<Target, OutOfMem
     })
 }
 
-/// Whether a number is none of a voice target.
+// Whether a number is none of a voice target.
 fn is_no_target(number: u32) -> bool
     ensures { result ≡ ((number == 0) || nat_lt LAST_TARGET number) }
 {
     number == 0 || number > u32::from(LAST_TARGET)
 }
 
-/// What is decided of a voice target. It needs nothing.
+// What is decided of a voice target. It needs nothing.
 pub(crate) fn decide_target(
     alloc: Global,
     actor: SessionId,

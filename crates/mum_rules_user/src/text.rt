@@ -16,7 +16,7 @@ use mum_rules_tree::{Lack, MetPlaces, channel_numbered, need_once};
 use mum_state::{Edit, State, Verdict};
 use std::alloc::Global;
 
-/// TextMessage in the channel of each of these sessions that is here.
+// TextMessage in the channel of each of these sessions that is here.
 fn need_at_sessions(
     state: &State,
     who: &Who<'_>,
@@ -37,7 +37,7 @@ fn need_at_sessions(
     Ok(())
 }
 
-/// TextMessage in each of these channels that is there.
+// TextMessage in each of these channels that is there.
 fn need_in_channels(
     state: &State,
     who: &Who<'_>,
@@ -64,7 +64,7 @@ fn need_in_channels(
     Ok(())
 }
 
-/// For sessions first, then for channels, then for trees.
+// For sessions first, then for channels, then for trees.
 fn need_to_tell(state: &State, who: &Who<'_>, message: &TextMessage) -> Result<(), Lack>
     ensures { result ≡ all_met state.now
         (map (need (actor_of who.now) TEXT_MESSAGE) (channels_told state.now message.now)) }
@@ -75,7 +75,7 @@ fn need_to_tell(state: &State, who: &Who<'_>, message: &TextMessage) -> Result<(
     need_in_channels(state, who, message.tree_id.as_slice(), &mut met)
 }
 
-/// The sessions of these numbers, in their order.
+// The sessions of these numbers, in their order.
 pub(crate) fn sessions(alloc: Global, numbers: &[u32]) -> Result<Items<SessionId>, OutOfMemory>
     ensures { IfOk result (λ listed. listed ≡ map session_numbered numbers.now) }
 {
@@ -98,7 +98,7 @@ fn edit_to_tell(alloc: Global, actor: SessionId, message: &TextMessage) -> Resul
     })
 }
 
-/// What is decided of a text.
+// What is decided of a text.
 pub(crate) fn decide_text(
     alloc: Global,
     state: &State,

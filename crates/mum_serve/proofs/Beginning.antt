@@ -1,25 +1,5 @@
 -- The state at which a server begins.
-use Rattle.std.proofs.Common.{◌≡◌, ◌∙◌, ℕ, ◌<◌, ◌≤◌, ◌+◌, ◌^◌, ◌==◌, Bool, true, false, cond, List, [], ◌∷◌, ◌++◌, length, get_or, drop, Option, None, Some, inl, inr, refl, sym, ap, subst, arith}
-use Rattle.std.specs.Prelude.{IsTrue}
-use Rattle.std.proofs.lemmas.Bool.{and_parts}
-use Rattle.std.proofs.lemmas.Bool.Decides.{nat_tests}
-use Rattle.std.proofs.lemmas.List.{drop_all, drop_more}
-use Rattle.std.proofs.lemmas.List.Elements.{All-cons}
-use Rattle.mum_base.specs.declared.number.TheConstants.{PLACES, SLOTS}
-use Rattle.mum_config.specs.Limits.{FitAfterLimits, is_beside_channels, settings_and_accounts}
-use Rattle.mum_kept.specs.Good.{IsGood, IsTree}
-use Rattle.mum_kept.specs.Rebuild.{rebuild}
-use Rattle.mum_kept.specs.declared.rows.KeptChannel.{KeptChannel}
-use Rattle.mum_kept.specs.declared.rows.KeptRows.{KeptRows}
-use Rattle.mum_kept_laws.specs.RoundTrip.{HaveNumbers, first_limits}
-use Rattle.mum_kept_laws.proofs.KeptAgain.{rebuild_fits_lem}
-use Rattle.mum_opening.specs.Opening.{greatest_limits, limits_edits, served_edits}
-use Rattle.mum_state.specs.declared.edit.Edit.{Edit}
-use Rattle.mum_state.specs.After.{after, all_fit, led_to}
-use Rattle.mum_state.specs.Applied.{applied}
-use Rattle.mum_state.specs.Fits.{fits}
-use Rattle.mum_state.specs.State.{StateValue, empty_state}
-use Rattle.mum_serve.specs.Loading.{edits_beside, edits_over, state_over}
+use Rattle.mum_serve.proofs.Common.{◌≡◌, ◌∙◌, ℕ, ◌<◌, ◌≤◌, ◌+◌, ◌^◌, ◌==◌, Bool, true, false, cond, List, [], ◌∷◌, ◌++◌, length, get_or, drop, Option, None, Some, inl, inr, refl, sym, ap, subst, arith, IsTrue, and_parts, nat_tests, drop_all, drop_more, All-cons, PLACES, SLOTS, FitAfterLimits, is_beside_channels, settings_and_accounts, IsGood, IsTree, rebuild, KeptChannel, KeptRows, HaveNumbers, first_limits, rebuild_fits_lem, greatest_limits, limits_edits, served_edits, Edit, after, all_fit, led_to, applied, fits, StateValue, empty_state, edits_beside, edits_over, state_over}
 
 -- ---- the settings and the accounts, one edit after the other
 
@@ -72,7 +52,7 @@ numbers_more channels i channel inside is has before rest =
 
 -- ---- the kept channels
 
--- edits that fit one after the other: those behind the first
+-- edits that fit one after the other: those after the first
 fit_behind : (state : StateValue) (edits more : List Edit) → IsTrue (all_fit state (edits ++ more)) → IsTrue (all_fit (led_to state edits) more)
 fit_behind state [] more fit = fit
 fit_behind state (edit ∷ edits) more fit =

@@ -1,7 +1,5 @@
 -- The clock that an owner is given, and gives back.
-use Rattle.std.proofs.Common.{◌≡◌, ◌∙◌, ℕ, ap}
-use Rattle.mum_owner.specs.Facts.{OwnerFacts}
-use Rattle.mum_serve.specs.Clocks.{clock_at, clock_of}
+use Rattle.mum_serve.proofs.Common.{◌≡◌, ◌∙◌, ℕ, ap, OwnerFacts, clock_at, clock_of}
 
 module _ {D K L : Type 0} (last calls : K → ℕ) (clock : K) (owner : OwnerFacts D L) where
   pub clock_begins : (owner.warden.last ≡ last clock) × (owner.warden.calls ≡ calls clock) → clock_of owner ≡ clock_at last calls clock

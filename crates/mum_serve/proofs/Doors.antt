@@ -1,20 +1,6 @@
 -- The doors, the clock and the keeper of a run that did not come to its end.
-use Rattle.std.proofs.Common.{◌≡◌, ◌∙◌, ℕ, List, Option, None, Some, ap, refl, subst, sym}
-use Rattle.mum_crew.specs.Crew.{CrewCounts}
-use Rattle.mum_io.specs.Link.{LinkFacts}
-use Rattle.mum_io.specs.Door.{DoorFacts}
-use Rattle.mum_keeper.specs.Keeping.{KeeperFacts}
-use Rattle.mum_kept.specs.declared.rows.KeptRows.{KeptRows}
-use Rattle.mum_state.specs.State.{StateValue}
-use Rattle.mum_state.specs.declared.edit.Edit.{Edit}
-use Rattle.mum_serve.specs.Asked.{Service, ViewService}
-use Rattle.mum_serve.specs.Clocks.{clock_at}
-use Rattle.mum_serve.specs.Loading.{IsUnchanged, Loads, LoadsNothing, state_over}
-use Rattle.mum_serve.specs.Serving.{IsUnasked, LeavesClock, Opens, OpensView, Runs, RunsCounted, Serves, ServesAt, unloaded}
-use Rattle.mum_serve.specs.declared.asked.Objects.{Objects}
-use Rattle.mum_serve.specs.declared.load.LoadFault.{LoadFault}
+use Rattle.mum_serve.proofs.Common.{◌≡◌, ◌∙◌, ℕ, List, Option, None, Some, ap, refl, subst, sym, CrewCounts, LinkFacts, DoorFacts, KeeperFacts, KeptRows, StateValue, Edit, Service, ViewService, clock_at, IsUnchanged, Loads, LoadsNothing, state_over, IsUnasked, LeavesClock, Opens, OpensView, Runs, RunsCounted, Serves, ServesAt, unloaded, Objects, LoadFault, Served}
 use Rattle.mum_serve.specs.declared.load.LoadFault.TheVariants as faults
-use Rattle.mum_serve.specs.declared.server.Served.{Served}
 use Rattle.mum_serve.specs.declared.server.Served.TheVariants as ends
 
 module _ {D : Type 0} (door_facts : D → DoorFacts) where

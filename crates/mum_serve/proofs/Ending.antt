@@ -1,31 +1,6 @@
 -- The roles after their last turn.
-use Rattle.std.proofs.Common.{◌≡◌, ◌∙◌, ℕ, ◌+◌, ◌<◌, ◌≤◌, Bool, true, List, [], ◌∷◌, ◌++◌, append_assoc, append-nil, length, map, get_or, drop, IsTrue, Option, Some, None, sym, ap, subst, arith}
-use Rattle.std.specs.List.{All, AllByRecursion}
-use Rattle.std.proofs.lemmas.List.{drop_all, drop_more, length-map}
-use Rattle.std.proofs.lemmas.List.Elements.{All-head, All-tail}
-use Rattle.std.proofs.lemmas.Slice.Zip.{AllZip-long}
-use Rattle.mum_crew.specs.Turns.{TurnsLead}
-use mathlib.Core.List.{IsPrefix}
-use Rattle.mum_io.specs.Link.{LinkFacts}
-use Rattle.mum_io.specs.Door.{DoorFacts}
-use Rattle.mum_keeper.specs.Store.{StoreFacts}
-use Rattle.mum_owner.specs.Facts.{OwnerFacts}
-use Rattle.mum_owner.specs.Turned.{has_ended as owner_has_ended}
-use Rattle.mum_published.specs.Facts.{Opening, PassFacts, PublisherFacts}
-use Rattle.mum_record.specs.Journal.{Each, IsWritableEntry}
-use Rattle.mum_record.specs.declared.journal.WorkerEntry.{WorkerEntry}
-use Rattle.mum_viewer.specs.Viewer.{ViewerFacts, has_ended as viewer_has_ended}
-use Rattle.mum_worker.specs.Facts.{WorkerFacts, is_done}
-use Rattle.mum_worker.specs.Turning.{WorkerTurned}
-use Rattle.mum_serve.specs.Clocks.{ClockFacts}
-use Rattle.mum_serve.specs.Journals.{entries_of}
-use Rattle.mum_serve.specs.OneList.{AreWithin, IsWithin}
-use Rattle.mum_serve.specs.Roles.{has_ended, later_of, roles_of, with_workers}
-use Rattle.mum_serve.specs.Running.{HaveTurned}
-use Rattle.mum_serve.specs.Totals.{with_worker}
-use Rattle.mum_serve.specs.declared.roles.Roles.{Roles}
+use Rattle.mum_serve.proofs.Common.{◌≡◌, ◌∙◌, ℕ, ◌+◌, ◌<◌, ◌≤◌, Bool, true, List, [], ◌∷◌, ◌++◌, append_assoc, append-nil, length, map, get_or, drop, IsTrue, Option, Some, None, sym, ap, subst, arith, All, AllByRecursion, drop_all, drop_more, length-map, All-head, All-tail, AllZip-long, TurnsLead, IsPrefix, LinkFacts, DoorFacts, StoreFacts, OwnerFacts, owner_has_ended, Opening, PassFacts, PublisherFacts, Each, IsWritableEntry, WorkerEntry, ViewerFacts, viewer_has_ended, WorkerFacts, is_done, WorkerTurned, ClockFacts, entries_of, AreWithin, IsWithin, has_ended, later_of, roles_of, with_workers, HaveTurned, with_worker, Roles, WorkerTotals}
 use Rattle.mum_serve.specs.declared.roles.Roles.TheVariants as roles
-use Rattle.mum_serve.specs.declared.totals.WorkerTotals.{WorkerTotals}
 
 -- ---- what the workers saw, compared with what was published, one worker after another
 

@@ -1,22 +1,6 @@
 -- The roles are joined by the queues that they were given.
-use Rattle.std.proofs.Common.{◌≡◌, ◌∙◌, ℕ, Bool, List, [], ◌∷◌, Option, map, refl, sym, ap, subst}
-use Rattle.std.specs.List.{AllByRecursion, AllPairs, AllZip}
-use Rattle.mum_control.specs.Facts.{ControlFacts}
-use Rattle.mum_outbox.specs.Calls.{IsNewPass, lower_half}
-use Rattle.mum_outbox.specs.Facts.{PassFacts, QueueFacts, QueueId}
-use Rattle.mum_owner.specs.Bell.{new_side}
-use Rattle.mum_owner.specs.Facts.{OwnerFacts}
-use Rattle.mum_owner.specs.Opened.{IsOpened}
-use Rattle.mum_port.specs.declared.item.DeskItem.{DeskItem}
-use Rattle.mum_worker.specs.Bell.{BellFacts}
-use Rattle.mum_worker.specs.Boxes.{queues as queues_of}
-use Rattle.mum_worker.specs.Facts.{WorkerFacts}
-use Rattle.mum_worker.specs.Opening.{JoinsShared, out_queues}
-use Rattle.mum_router.specs.Offering.{Outs}
-use Rattle.mum_worker.proofs.Outs.{new_queues}
-use Rattle.mum_worker.specs.declared.worker.Shared.{Shared}
-use Rattle.mum_serve.specs.Joined.{AreJoinedTo, IsJoinedTo, bell_queues, post_queues, side_queues}
-use Rattle.mum_serve.specs.Queues.{AreShared, AreTwo, SharesQueues, bells_of}
+use Rattle.mum_serve.proofs.Common.{◌≡◌, ◌∙◌, ℕ, Bool, List, [], ◌∷◌, Option, map, refl, sym, ap, subst, AllByRecursion, AllPairs, AllZip, ControlFacts, IsNewPass, lower_half, QueueFacts, QueueId, new_side, OwnerFacts, IsOpened, DeskItem, BellFacts, queues_of, WorkerFacts, JoinsShared, out_queues, Outs, new_queues, Shared, AreJoinedTo, IsJoinedTo, bell_queues, post_queues, side_queues, AreShared, AreTwo, SharesQueues, bells_of}
+use Rattle.mum_outbox.specs.Facts.{PassFacts}
 use Rattle.mum_serve.proofs.Naming.{same_lower, same_upper}
 
 named : (L : Type 0) (names : List QueueId) → side_queues (map (new_side {L = L}) names) ≡ names

@@ -1,3 +1,4 @@
+mod Common
 mod Naming
 mod Sharing
 mod Numbering

@@ -1,15 +1,5 @@
 -- Queues that have numbers for their names, and numbers that their owners have to give.
-use Rattle.std.proofs.Common.{◌≡◌, ◌∙◌, ℕ, zero, suc, ◌+◌, ◌-◌, ◌*◌, ◌^◌, ◌<◌, ◌≤◌, List, [], ◌∷◌, ◌++◌, length, map, refl, sym, ap, subst, arith}
-use Rattle.std.specs.List.{All, AllPairs}
-use Rattle.std.proofs.lemmas.List.{length-map, map-append}
-use Rattle.std.proofs.lemmas.List.Elements.{All-cons, All-map, All-nil, All-weaker}
-use Rattle.std.proofs.lemmas.List.Kept.{AllPairs-cons}
-use Rattle.mum_outbox.specs.declared.rule.TheConstants.{LAST}
-use Rattle.mum_outbox.specs.Calls.{HasNumbers, lower_half, upper_half}
-use Rattle.mum_outbox.specs.Facts.{QueueFacts, QueueId}
-use Rattle.mum_outbox.proofs.Giving.{has_fewer, lower_has, upper_has}
-use Rattle.mum_worker.specs.Boxes.{queues as queues_of}
-use Rattle.mum_serve.specs.Queues.{AreNamedFrom, AreTwo, doubled, numbers_behind}
+use Rattle.mum_serve.proofs.Common.{◌≡◌, ◌∙◌, ℕ, zero, suc, ◌+◌, ◌-◌, ◌*◌, ◌^◌, ◌<◌, ◌≤◌, List, [], ◌∷◌, ◌++◌, length, map, refl, sym, ap, subst, arith, All, AllPairs, length-map, map-append, All-cons, All-map, All-nil, All-weaker, AllPairs-cons, LAST, HasNumbers, lower_half, upper_half, QueueFacts, QueueId, has_fewer, lower_has, upper_has, queues_of, AreNamedFrom, AreTwo, doubled, numbers_behind}
 
 -- ---- names
 
@@ -17,7 +7,7 @@ pub named_behind : (first : ℕ) (queues : List QueueId) (queue : QueueId) → q
 named_behind first [] queue is all = (omega (arith, is), tt)
 named_behind first (one ∷ queues) queue is all = (all.0, named_behind (first + 1) queues queue (omega (arith, is)) all.1)
 
--- a queue more, behind the others
+-- a queue more, after the others
 pub named_more : (old new : List QueueFacts) (queue : QueueFacts) → new ≡ old ++ queue ∷ [] → queue.queue.name ≡ length old → AreNamedFrom 0 (queues_of old) → AreNamedFrom 0 (queues_of new)
 named_more old new queue pushed is all =
     let many : length (queues_of old) ≡ length old = length-map old (λ (q : QueueFacts). q.queue) in

@@ -1,20 +1,7 @@
 -- The passes of a server's roles have numbers of their own.
-use Rattle.std.proofs.Common.{◌≡◌, ◌∙◌, ℕ, ◌*◌, ◌^◌, ◌<◌, ◌≤◌, List, [], ◌∷◌, map, refl, sym, ap, subst, arith}
-use Rattle.std.specs.List.{All, AllByRecursion, AllZip}
-use Rattle.mum_control.specs.Facts.{ControlFacts}
-use Rattle.mum_outbox.specs.Calls.{HasNumbers, IsNewPass, lower_half, new_pass, upper_half}
-use Rattle.mum_outbox.specs.Facts.{PassFacts, QueueFacts}
-use Rattle.mum_outbox.specs.declared.parcel.PostParcel.{PostParcel}
-use Rattle.mum_outbox.proofs.Giving.{has_fewer, pass_below}
-use Rattle.mum_owner.specs.Facts.{OwnerFacts}
-use Rattle.mum_router.specs.Offering.{Outs}
-use Rattle.mum_worker.specs.Facts.{WorkerFacts}
-use Rattle.mum_worker.specs.Opening.{JoinsShared}
-use Rattle.mum_worker.specs.declared.worker.Shared.{Shared}
-use Rattle.mum_serve.specs.Numbers.{AreNumbered, HasOwnNumber, IsNumbered}
-use Rattle.mum_serve.specs.Queues.{HasBoxes}
+use Rattle.mum_serve.proofs.Common.{◌≡◌, ◌∙◌, ℕ, ◌*◌, ◌^◌, ◌<◌, ◌≤◌, List, [], ◌∷◌, map, refl, sym, ap, subst, arith, All, AllByRecursion, AllZip, ControlFacts, HasNumbers, IsNewPass, lower_half, new_pass, upper_half, QueueFacts, PostFacts, has_fewer, pass_below, OwnerFacts, Outs, WorkerFacts, JoinsShared, Shared, AreNumbered, HasOwnNumber, IsNumbered, HasBoxes, All-head, All-tail}
+use Rattle.mum_outbox.specs.Facts.{PassFacts}
 use Rattle.mum_serve.proofs.Naming.{all_map, have_fewer, lower_have, upper_have}
-use Rattle.std.proofs.lemmas.List.Elements.{All-head, All-tail}
 
 -- a new pass of an owner that has a number has one of its own
 new_number : (I : Type 0) (owner : QueueFacts) → HasNumbers 1 owner → HasOwnNumber (new_pass {I = I} owner)

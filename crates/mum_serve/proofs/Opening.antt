@@ -1,22 +1,5 @@
 -- The roles before their first turn, one after another.
-use Rattle.std.proofs.Common.{◌≡◌, ◌∙◌, ℕ, ◌+◌, Bool, List, [], ◌∷◌, ◌++◌, append_assoc, append-nil, length, length-append, map, Option, None, Some, sym, ap, subst, arith}
-use Rattle.std.specs.List.{All, AllByRecursion, AllZip}
-use Rattle.mum_control.specs.Facts.{ControlFacts}
-use Rattle.mum_control.specs.Posting.{IsOpened as IsOpenedControl}
-use Rattle.mum_outbox.specs.Calls.{IsNewPass, lower_half}
-use Rattle.mum_outbox.specs.Facts.{QueueFacts, QueueId}
-use Rattle.mum_owner.specs.Facts.{OwnerFacts}
-use Rattle.mum_owner.specs.Opened.{IsOpened}
-use Rattle.mum_published.specs.Calls.{IsFresh, appended}
-use Rattle.mum_published.specs.Facts.{Opening, PassFacts as Pass, PublisherFacts}
-use Rattle.mum_worker.specs.Facts.{WorkerFacts}
-use Rattle.mum_router.specs.Offering.{Outs}
-use Rattle.mum_worker.specs.Opening.{HasOpened, IsUnused, JoinsShared}
-use Rattle.mum_worker.proofs.Outs.{new_unused}
-use Rattle.mum_worker.specs.declared.worker.Shared.{Shared}
-use Rattle.mum_serve.specs.Clocks.{ClockFacts, clock_of}
-use Rattle.mum_serve.specs.Stores.{archive_queue}
-use Rattle.mum_serve.specs.Opened.{AreOpenedFrom, ControlBegins, OwnerBegins, WorkerBegins}
+use Rattle.mum_serve.proofs.Common.{◌≡◌, ◌∙◌, ℕ, ◌+◌, Bool, List, [], ◌∷◌, ◌++◌, append_assoc, append-nil, length, length-append, map, Option, None, Some, sym, ap, subst, arith, All, AllByRecursion, AllZip, ControlFacts, IsOpenedControl, IsNewPass, lower_half, QueueFacts, QueueId, OwnerFacts, IsOpened, IsFresh, appended, Opening, Pass, PublisherFacts, WorkerFacts, Outs, HasOpened, IsUnused, JoinsShared, new_unused, Shared, ClockFacts, clock_of, archive_queue, AreOpenedFrom, ControlBegins, OwnerBegins, WorkerBegins}
 
 -- a control owner that was opened over a published state, to which nothing was appended, and with an empty roll, is new
 pub control_begins : (opening : Opening) (publisher : PublisherFacts) (posts : List QueueFacts) (control : ControlFacts)
@@ -61,7 +44,7 @@ module _ {L : Type 0} where
   opened_behind opening closings first next (one ∷ old) worker is all begins =
       (all.0, opened_behind opening closings (first + 1) next old worker (omega (arith, is)) all.1 begins)
 
-  -- one worker more is numbered behind the others
+  -- one worker more is numbered after the others
   pub opened_more : (opening : Opening) (closings : Option ℕ) (number : ℕ) (old new : List (WorkerFacts L)) (worker : WorkerFacts L)
       → length old ≡ number → new ≡ old ++ worker ∷ [] → WorkerBegins opening closings number worker → AreOpenedFrom opening closings 0 old → AreOpenedFrom opening closings 0 new
   opened_more opening closings number old new worker many pushed begins all =

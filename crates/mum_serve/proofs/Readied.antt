@@ -1,40 +1,6 @@
 -- All roles of a server: what a crew gave back of what it was given, and what came of that.
-use Rattle.std.proofs.Common.{◌≡◌, ◌∙◌, ℕ, ◌+◌, ◌≤◌, List, length, Option, None, is_some, false, true, IsTrue, refl, sym, ap, subst, arith}
-use Rattle.std.specs.Global.{Vec}
-use Rattle.std.specs.List.{All, AllZip}
-use Rattle.mum_crew.specs.Crew.{CrewCounts, RunCounts}
-use Rattle.mum_crew.specs.Turns.{TurnsLead}
-use Rattle.mum_crew.specs.declared.crew.CrewEnd.{CrewEnd}
-use Rattle.mum_crew.specs.declared.crew.CrewEnd.TheVariants.{Ran, Refused, NoMemory}
-use Rattle.mum_io.specs.Link.{LinkFacts}
-use Rattle.mum_io.specs.Door.{DoorFacts}
-use Rattle.mum_control.specs.Commanded.{current}
-use Rattle.mum_keeper.specs.Keeping.{KeeperFacts}
-use Rattle.mum_keeper.specs.Mirror.{opening_of}
-use Rattle.mum_keeper.specs.Store.{StoreFacts}
-use Rattle.mum_kept.specs.declared.rows.KeptRows.{KeptRows}
-use Rattle.mum_owner.specs.Facts.{OwnerFacts}
-use Rattle.mum_published.specs.Facts.{Opening}
-use Rattle.mum_viewer.specs.Viewer.{ViewerFacts}
-use Rattle.mum_worker.specs.Facts.{WorkerFacts}
-use Rattle.mum_serve.specs.Asked.{Service}
-use Rattle.mum_serve.specs.Clocks.{clock_at, clock_of}
-use Rattle.mum_serve.specs.Ready.{AreBack, AreReady, ComeTo, ending_of}
-use Rattle.mum_serve.specs.Opened.{HasRoom}
-use Rattle.mum_serve.specs.Roles.{AreRoles, RoleTurned, has_ended, roles_of}
-use Rattle.mum_serve.specs.Serving.{HasRun, LeavesClock, Runs, RunsCounted, opening_at}
-use Rattle.mum_serve.specs.Stores.{GivesKeeperBack, archive_queue}
-use Rattle.mum_serve.specs.declared.asked.Objects.{Objects}
-use Rattle.mum_serve.specs.declared.entries.Entries.{Entries}
-use Rattle.mum_serve.specs.declared.later.Unused.{Unused}
-use Rattle.mum_serve.specs.declared.roles.Roles.{Roles}
-use Rattle.mum_serve.specs.declared.server.Served.{Served}
-use Rattle.mum_serve.specs.declared.summary.Summary.{Summary}
-use Rattle.mum_serve.proofs.Ending.{others_done, owner_done}
-use Rattle.mum_serve.proofs.Storing.{has_stored, keeper_back, keeper_kept, store_came as keeps_came}
-use Rattle.mum_serve.proofs.Together.{few_behind, store_in, store_is, viewer_in, viewer_is, workers_are, workers_in}
-use Rattle.mum_serve.proofs.Turning.{as_many_workers, crew_led, door_back, no_store_back, none_back, owner_back, owner_led, roles_back, store_back, store_turned, viewer_back, viewer_turned}
-use Rattle.mum_serve.proofs.Viewing.{door_kept, has_viewed, view_back, views_came}
+use Rattle.mum_serve.proofs.Common.{◌≡◌, ◌∙◌, ℕ, ◌+◌, ◌≤◌, List, length, Option, None, is_some, false, true, IsTrue, refl, sym, ap, subst, arith, Vec, All, AllZip, CrewCounts, RunCounts, TurnsLead, CrewEnd, Ran, Refused, NoMemory, LinkFacts, DoorFacts, current, KeeperFacts, opening_of, StoreFacts, KeptRows, OwnerFacts, Opening, ViewerFacts, WorkerFacts, Service, clock_at, clock_of, AreBack, AreReady, ComeTo, ending_of, HasRoom, AreRoles, RoleTurned, has_ended, roles_of, HasRun, LeavesClock, Runs, RunsCounted, opening_at, GivesKeeperBack, archive_queue, Objects, Entries, Unused, Roles, Served, Summary}
+use Rattle.mum_serve.proofs.{Ending.others_done, Ending.owner_done, Storing.has_stored, Storing.keeper_back, Storing.keeper_kept, Storing.store_came as keeps_came, Together.few_behind, Together.store_in, Together.store_is, Together.viewer_in, Together.viewer_is, Together.workers_are, Together.workers_in, Turning.as_many_workers, Turning.crew_led, Turning.door_back, Turning.no_store_back, Turning.none_back, Turning.owner_back, Turning.owner_led, Turning.roles_back, Turning.store_back, Turning.store_turned, Turning.viewer_back, Turning.viewer_turned, Viewing.door_kept, Viewing.has_viewed, Viewing.view_back, Viewing.views_came}
 
 -- the crew counts how it ended
 pub counted_so : (end : CrewEnd) (summary : Summary) (entries : Entries) (ended : Served) (old new : CrewCounts) → ended ≡ ending_of end summary entries → RunCounts end old new → RunsCounted ended old new

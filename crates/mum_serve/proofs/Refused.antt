@@ -1,23 +1,6 @@
 -- Runs that end before anything is opened.
-use Rattle.std.proofs.Common.{◌≡◌, ◌∙◌, ℕ, ◌<◌, true, List, [], ◌∷◌, ◌++◌, length, Option, None, Some, Result, Ok, Err, IfOk, IfSome, inl, inr, length-append, refl, sym, ap, subst, arith}
-use Rattle.std.specs.Prelude.{codes, nat_lt}
-use Rattle.std.proofs.lemmas.Bool.Decides.{nat_tests}
-use Rattle.std.specs.Option.{option_map_or}
-use Rattle.mum_config.specs.Document.{fault_of}
-use Rattle.mum_config.specs.Limits.{FitAfterLimits, settings_and_accounts}
-use Rattle.mum_config.proofs.FitSettings.{settings_fit_limits}
-use Rattle.mum_state.specs.declared.edit.Edit.{Edit}
-use Rattle.mum_config.specs.declared.config.Config.{Config}
-use Rattle.mum_crew.specs.Crew.{CrewCounts}
-use Rattle.mum_document.specs.Fault.{Fault, or_else}
-use Rattle.mum_config.specs.declared.refusal.BadConfig.{BadConfig}
+use Rattle.mum_serve.proofs.Common.{◌≡◌, ◌∙◌, ℕ, ◌<◌, true, List, [], ◌∷◌, ◌++◌, length, Option, None, Some, Result, Ok, Err, IfOk, IfSome, inl, inr, length-append, refl, sym, ap, subst, arith, codes, nat_lt, nat_tests, option_map_or, fault_of, FitAfterLimits, settings_and_accounts, settings_fit_limits, Edit, Config, CrewCounts, Fault, or_else, BadConfig, Limit, IsAllOrLonger, Keeps, document_fault, ReadsDescribed, Describes, DescribesConfig, IsInput, IsRefusal, NamesFault, ReadsCounted, RunsInCrew, WritesCounted, refusal, ServerEnd}
 use Rattle.mum_config.specs.declared.refusal.BadConfig.TheVariants as errors
-use Rattle.mum_document.specs.declared.fault.ConfigFault.TheVariants.{Limit}
-use Rattle.mum_io.specs.Outside.{IsAllOrLonger, Keeps}
-use Rattle.mum_opening.specs.Opening.{document_fault}
-use Rattle.mum_opening.specs.Reading.{ReadsDescribed}
-use Rattle.mum_serve.specs.Program.{Describes, DescribesConfig, IsInput, IsRefusal, NamesFault, ReadsCounted, RunsInCrew, WritesCounted, refusal}
-use Rattle.mum_serve.specs.declared.program.ServerEnd.{ServerEnd}
 use Rattle.mum_serve.specs.declared.program.ServerEnd.TheVariants as ends
 
 -- what is said against a document that is too long

@@ -1,18 +1,6 @@
 -- The queues that workers share, one worker after another.
-use Rattle.std.proofs.Common.{◌≡◌, ◌∙◌, ℕ, ◌+◌, ◌*◌, ◌^◌, ◌<◌, ◌≤◌, List, [], ◌∷◌, ◌++◌, length, length-append, map, refl, sym, ap, subst, arith}
-use Rattle.std.specs.List.{All, AllByRecursion}
-use Rattle.std.proofs.lemmas.List.{length-map, map-append}
-use Rattle.std.proofs.lemmas.List.Elements.{All-nil, All-push}
-use Rattle.mum_outbox.specs.Calls.{HasNumbers, IsFirst, lower_half, new_pass, upper_half}
-use Rattle.mum_outbox.specs.declared.rule.TheConstants.{LAST}
-use Rattle.mum_outbox.specs.Facts.{QueueFacts, QueueId}
-use Rattle.mum_outbox.proofs.Giving.{first_has, has_fewer, lower_has, upper_has}
-use Rattle.mum_base.specs.declared.number.TheConstants.{SLOTS}
-use Rattle.mum_worker.specs.Boxes.{queues as queues_of}
-use Rattle.mum_worker.specs.declared.worker.Shared.{Shared}
-use Rattle.mum_serve.specs.Joined.{post_queues}
-use Rattle.mum_serve.specs.Queues.{AreNamedFrom, AreShared, HasBoxes, HaveNumbers, HaveShared, SharesHalf, SharesQueues, bells_of, numbers_behind}
-use Rattle.mum_serve.specs.declared.queues.Ends.{Ends}
+use Rattle.mum_serve.proofs.Common.{◌≡◌, ◌∙◌, ℕ, ◌+◌, ◌*◌, ◌^◌, ◌<◌, ◌≤◌, List, [], ◌∷◌, ◌++◌, length, length-append, map, refl, sym, ap, subst, arith, All, AllByRecursion, length-map, map-append, All-nil, All-push, HasNumbers, IsFirst, lower_half, new_pass, upper_half, LAST, QueueFacts, QueueId, first_has, has_fewer, lower_has, upper_has, SLOTS, queues_of, Shared, post_queues, AreNamedFrom, AreShared, HasBoxes, HaveShared, SharesHalf, SharesQueues, bells_of, numbers_behind, Ends}
+use Rattle.mum_serve.specs.Queues.{HaveNumbers}
 use Rattle.mum_serve.proofs.Naming.{have_fewer, lower_have, named_apart, named_more, numbers_at_first, numbers_left, numbers_step, same_lower, same_upper, upper_have}
 
 -- what holds of each holds of each with one more
@@ -51,7 +39,7 @@ module _ {L N : Type 0} where
       ∙ sym (ap (λ (qs : List QueueFacts). queues_of qs) hung)
 
   -- the owners that are left have half of the numbers
-  numbers_halved : (count : ℕ) (old new : Ends) (bell : QueueFacts) (one : Shared L N) → SharesHalf old new bell one → HaveNumbers (2 * count) old → HaveNumbers count new
+  numbers_halved : (count : ℕ) (old new : Ends N) (bell : QueueFacts) (one : Shared L N) → SharesHalf old new bell one → HaveNumbers (2 * count) old → HaveNumbers count new
   numbers_halved count old new bell one half has = record {
     voices = subst (All (HasNumbers count)) (sym half.voices) (lower_have count old.voices.items has.voices);
     posts = subst (All (HasNumbers count)) (sym half.posts) (lower_have count old.posts.items has.posts);
@@ -59,7 +47,7 @@ module _ {L N : Type 0} where
   }
 
   -- and so has the worker
-  boxes_halved : (count : ℕ) (old new : Ends) (bell : QueueFacts) (one : Shared L N) → SharesHalf old new bell one → HaveNumbers (2 * count) old → 2 ^ 33 ≤ count
+  boxes_halved : (count : ℕ) (old new : Ends N) (bell : QueueFacts) (one : Shared L N) → SharesHalf old new bell one → HaveNumbers (2 * count) old → 2 ^ 33 ≤ count
       → length old.voices.items ≡ SLOTS → length old.posts.items ≡ SLOTS → HasBoxes one
   boxes_halved count old new bell one half has enough voices posts = record {
     voice = ap (λ (qs : List QueueFacts). length qs) half.voice_half ∙ length-map old.voices.items upper_half ∙ voices;
@@ -69,7 +57,7 @@ module _ {L N : Type 0} where
     desk_numbers = has_fewer count (2 ^ 33) one.desk enough (subst (HasNumbers count) (sym half.desk_half) (upper_has count old.desk has.desk));
   }
 
-  pub one_more : (workers : ℕ) (old new : Ends) (bell end : QueueFacts) (one : Shared L N) (bells later : List QueueFacts) (shared all : List (Shared L N))
+  pub one_more : (workers : ℕ) (old new : Ends N) (bell end : QueueFacts) (one : Shared L N) (bells later : List QueueFacts) (shared all : List (Shared L N))
       → workers < 8 → HaveShared workers old bells shared → SharesHalf old new end one → end.queue ≡ bell.queue → bell.queue.name ≡ workers
       → later ≡ bells ++ bell ∷ [] → all ≡ shared ++ one ∷ [] → HaveShared (workers + 1) new later all
   one_more workers old new bell end one bells later shared all few so half same name hung pushed =
@@ -97,7 +85,7 @@ module _ {L N : Type 0} where
       }
 
   -- no worker got its half yet
-  pub none_shared : (ends : Ends) (bells : List QueueFacts) (shared : List (Shared L N)) → bells ≡ [] → shared ≡ [] → length ends.voices.items ≡ SLOTS → length ends.posts.items ≡ SLOTS
+  pub none_shared : (ends : Ends N) (bells : List QueueFacts) (shared : List (Shared L N)) → bells ≡ [] → shared ≡ [] → length ends.voices.items ≡ SLOTS → length ends.posts.items ≡ SLOTS
       → AreNamedFrom 0 (queues_of ends.voices.items) → AreNamedFrom 0 (queues_of ends.posts.items) → All (HasNumbers LAST) ends.voices.items → All (HasNumbers LAST) ends.posts.items
       → IsFirst 0 ends.desk → HaveShared 0 ends bells shared
   none_shared ends bells shared no_bell nobody voices posts voices_named posts_named voice_numbers post_numbers desk = record {
@@ -118,7 +106,7 @@ module _ {L N : Type 0} where
     each = subst (AllByRecursion (SharesQueues (queues_of ends.posts.items) (queues_of ends.voices.items) ends.desk.queue)) (sym nobody) tt;
   }
 
-  pub are_shared : (workers : ℕ) (ends : Ends) (bells : List QueueFacts) (shared : List (Shared L N)) → HaveShared workers ends bells shared
+  pub are_shared : (workers : ℕ) (ends : Ends N) (bells : List QueueFacts) (shared : List (Shared L N)) → HaveShared workers ends bells shared
       → AreShared (queues_of ends.posts.items) ends.desk.queue (queues_of bells) shared
   are_shared workers ends bells shared so = record {
     bells_are = so.bells_are;

@@ -1,17 +1,6 @@
 -- The store of a server, from its opening to its end.
-use Rattle.std.proofs.Common.{◌≡◌, ◌∙◌, Bool, true, Option, None, Some, is_some, false, refl, sym, ap, subst}
-use Rattle.mum_outbox.specs.Facts.{QueueId}
-use Rattle.mum_crew.specs.declared.crew.CrewEnd.{CrewEnd}
-use Rattle.mum_crew.specs.declared.crew.CrewEnd.TheVariants.{Ran, Refused, NoMemory}
-use Rattle.mum_keeper.specs.Keeping.{KeeperFacts}
-use Rattle.mum_keeper.specs.Mirror.{IsSince}
-use Rattle.mum_keeper.specs.Store.{IsOpened, StoreFacts}
-use Rattle.mum_keeper.specs.declared.naming.KeeperOpening.{KeeperOpening}
-use Rattle.mum_kept.specs.declared.rows.KeptRows.{KeptRows}
-use Rattle.mum_published.specs.Facts.{Opening, PassFacts}
-use Rattle.mum_state.specs.State.{StateValue}
-use Rattle.mum_serve.specs.Opened.{fresh_pass}
-use Rattle.mum_serve.specs.Stores.{CameToStore, EndsStore, GivesKeeperBack, HasStored, IsStoreOver, SettlesWhereRan, StoreBegins, StoresTurned}
+use Rattle.mum_serve.proofs.Common.{◌≡◌, ◌∙◌, Bool, true, Option, None, Some, is_some, false, refl, sym, ap, subst, QueueId, CrewEnd, Ran, Refused, NoMemory, KeeperFacts, IsSince, StoreFacts, KeeperOpening, KeptRows, Opening, PassFacts, StateValue, fresh_pass, CameToStore, EndsStore, GivesKeeperBack, HasStored, IsStoreOver, SettlesWhereRan, StoreBegins, StoresTurned}
+use Rattle.mum_keeper.specs.Store.{IsOpened}
 
 module _ {P : Type 0} where
   -- a store that was opened by a fresh pass, over the queue into which the owner puts

@@ -1,11 +1,5 @@
 -- The roles of a server as one list, and apart.
-use Rattle.std.proofs.Common.{◌≡◌, ◌∙◌, ◌<◌, ◌≤◌, ◌+◌, List, [], ◌∷◌, ◌++◌, append_assoc, append-nil, length, length-append, map, drop, slice_index_or, Option, Some, None, refl, sym, ap, arith}
-use Rattle.mum_keeper.specs.Store.{StoreFacts}
-use Rattle.mum_owner.specs.Facts.{OwnerFacts}
-use Rattle.mum_worker.specs.Facts.{WorkerFacts}
-use Rattle.mum_viewer.specs.Viewer.{ViewerFacts}
-use Rattle.mum_serve.specs.Roles.{AreOthers, AreRoles, later_of, others_of, roles_of, stores_of}
-use Rattle.mum_serve.specs.declared.roles.Roles.{Roles}
+use Rattle.mum_serve.proofs.Common.{◌≡◌, ◌∙◌, ◌<◌, ◌≤◌, ◌+◌, List, [], ◌∷◌, ◌++◌, append_assoc, append-nil, length, length-append, map, drop, slice_index_or, Option, Some, None, refl, sym, ap, arith, StoreFacts, OwnerFacts, WorkerFacts, ViewerFacts, AreOthers, AreRoles, later_of, others_of, roles_of, stores_of, Roles}
 use Rattle.mum_serve.specs.declared.roles.Roles.TheVariants as roles
 
 pub none_of : {X : Type 0} (one : Option X) → ((x : X) → one ≡ Some x → ⊥) → one ≡ None
@@ -91,11 +85,11 @@ module _ {D K P G N R L : Type 0} where
   abbrev pub workers_of : List (WorkerFacts L) → List (Roles D K P G N R L)
   workers_of crew = map roles.Worker crew
 
-  -- those that are put behind the others are workers too
+  -- those that are put after the others are workers too
   workers_more : (done : List (Roles D K P G N R L)) (worker : WorkerFacts L) (rest : List (WorkerFacts L)) → done ++ workers_of (worker ∷ rest) ≡ (done ++ roles.Worker worker ∷ []) ++ workers_of rest
   workers_more done worker rest = sym (append_assoc done (roles.Worker worker ∷ []) (workers_of rest))
 
-  -- one worker more was put behind the others, and these are left
+  -- one worker more was put after the others, and these are left
   pub put_one : (goal before after : List (Roles D K P G N R L)) (left rest : List (WorkerFacts L)) (worker : WorkerFacts L) → left ≡ worker ∷ rest → after ≡ before ++ roles.Worker worker ∷ []
       → before ++ workers_of left ≡ goal → after ++ workers_of rest ≡ goal
   put_one goal before after left rest worker is pushed so =
@@ -109,7 +103,7 @@ module _ {D K P G N R L : Type 0} where
   store_behind None store = refl
   store_behind (Some viewer) store = refl
 
-  -- behind a viewer there is room for a store
+  -- after a viewer there is room for a store
   pub room_behind : (before viewed : List (Roles D K P G N R L)) (viewer : Option (ViewerFacts D L)) → viewed ≡ before ++ later_of viewer None → length viewed ≤ length before + 1
   room_behind before viewed None pushed = let long = ap (λ (xs : List (Roles D K P G N R L)). length xs) pushed in let sum = length-append before [] in omega (arith, long, sum)
   room_behind before viewed (Some viewer) pushed =
@@ -117,7 +111,7 @@ module _ {D K P G N R L : Type 0} where
       let sum = length-append before (roles.Viewer viewer ∷ []) in
       omega (arith, long, sum)
 
-  -- a viewer is put behind the owner and the workers, and a store behind it
+  -- a viewer is put after the owner and the workers, and a store after it
   pub put_later : (before viewed after : List (Roles D K P G N R L)) (owner : OwnerFacts D L) (crew : List (WorkerFacts L)) (viewer : Option (ViewerFacts D L)) (store : Option (StoreFacts P)) → before ≡ roles.Owner owner ∷ workers_of crew
       → viewed ≡ before ++ later_of viewer None → after ≡ viewed ++ stores_of store → after ≡ roles_of owner crew viewer store
   put_later before viewed after owner crew viewer store is pushed last =
@@ -220,7 +214,7 @@ module _ {D K P G N R L : Type 0} where
       ∙ ap (λ (s : Option (StoreFacts P)). others_of workers viewer s) kept
   all_taken all (next ∷ left) workers viewer store these none taken = absurd (omega (arith, none))
 
-  -- behind the owner the others are
+  -- after the owner the others are
   pub others_left : (all rest : List (Roles D K P G N R L)) → AreRoles all → rest ≡ drop 1 all → AreOthers rest
   others_left all rest these is = record {
     crew = these.crew;

@@ -1,29 +1,7 @@
 -- The turns of all roles, apart: those of the owner, of each worker, of the viewer and of the store.
-use Rattle.std.proofs.Common.{◌≡◌, ◌∙◌, ℕ, Bool, List, [], ◌∷◌, length, Option, Some, None, refl, sym, ap, subst, arith}
-use Rattle.std.specs.List.{AllZip}
-use Rattle.std.proofs.lemmas.Slice.Zip.{AllZip-long}
-use Rattle.mum_crew.specs.Turns.{TurnsLead, TurnsTo}
-use Rattle.mum_crew.specs.declared.crew.CrewEnd.{CrewEnd}
-use Rattle.mum_crew.specs.declared.crew.CrewEnd.TheVariants.{Ran, Refused, NoMemory}
-use Rattle.mum_crew.specs.declared.role.Turn.{Turn}
-use Rattle.mum_io.specs.Link.{LinkFacts}
-use Rattle.mum_io.specs.Door.{DoorFacts}
-use Rattle.mum_keeper.specs.Keeping.{KeeperFacts}
-use Rattle.mum_keeper.specs.Store.{StoreFacts, StoreTurned}
-use Rattle.mum_owner.specs.Facts.{OwnerFacts}
-use Rattle.mum_owner.specs.Turned.{OwnerTurned}
-use Rattle.mum_published.specs.Facts.{Opening}
-use Rattle.mum_viewer.specs.Viewer.{ViewerFacts, ViewerTurned}
-use Rattle.mum_worker.specs.Facts.{WorkerFacts}
-use Rattle.mum_worker.specs.Turning.{WorkerTurned}
-use Rattle.mum_serve.specs.Clocks.{ClockFacts}
-use Rattle.mum_serve.specs.Roles.{AreRoles, RoleTurned, later_of, others_of, roles_of, stores_of}
-use Rattle.mum_serve.specs.Running.{HaveBegun}
-use Rattle.mum_serve.specs.Stores.{StoresTurned}
-use Rattle.mum_serve.specs.Views.{ViewersTurned}
-use Rattle.mum_serve.specs.declared.roles.Roles.{Roles}
-use Rattle.mum_serve.specs.declared.roles.Roles.TheVariants as roles
+use Rattle.mum_serve.proofs.Common.{◌≡◌, ◌∙◌, ℕ, Bool, List, [], ◌∷◌, length, Option, Some, None, refl, sym, ap, subst, arith, AllZip, AllZip-long, TurnsLead, TurnsTo, CrewEnd, Ran, Refused, NoMemory, Turn, LinkFacts, DoorFacts, KeeperFacts, StoreFacts, StoreTurned, OwnerFacts, OwnerTurned, Opening, ViewerFacts, ViewerTurned, WorkerFacts, WorkerTurned, ClockFacts, AreRoles, RoleTurned, later_of, others_of, roles_of, stores_of, HaveBegun, StoresTurned, ViewersTurned, Roles}
 use Rattle.mum_serve.proofs.Together.{store_in, store_is, viewer_in, viewer_is, workers_are, workers_in}
+use Rattle.mum_serve.specs.declared.roles.Roles.TheVariants as roles
 
 module _ {D K P G N R L : Type 0} where
   abbrev owner_or : OwnerFacts D L → Roles D K P G N R L → OwnerFacts D L

@@ -1,16 +1,6 @@
 -- The viewer of a server, from its opening to its end.
-use Rattle.std.proofs.Common.{◌≡◌, ◌∙◌, ℕ, true, List, [], ◌∷◌, ◌++◌, take, Option, None, Some, is_some, false, refl, sym, ap, subst}
-use Rattle.std.specs.List.{All}
-use Rattle.std.proofs.lemmas.List.Elements.{All-head, All-tail, All-take}
-use Rattle.mum_doorway.specs.declared.opening.DoorOpening.{DoorOpening}
-use Rattle.mum_io.specs.Link.{LinkFacts}
-use Rattle.mum_io.specs.Door.{DoorFacts}
-use Rattle.mum_published.specs.Calls.{IsFresh}
-use Rattle.mum_published.specs.Facts.{Opening, PassFacts}
-use Rattle.mum_viewer.specs.Viewer.{IsOpened, ViewerFacts, has_ended}
-use Rattle.mum_serve.specs.Asked.{ViewService}
-use Rattle.mum_serve.specs.Opened.{fresh_pass}
-use Rattle.mum_serve.specs.Views.{CameToViews, HasViewed, IsViewDoor, ViewersTurned}
+use Rattle.mum_serve.proofs.Common.{◌≡◌, ◌∙◌, ℕ, true, List, [], ◌∷◌, ◌++◌, take, Option, None, Some, is_some, false, refl, sym, ap, subst, All, All-head, All-tail, All-take, DoorOpening, LinkFacts, DoorFacts, IsFresh, Opening, PassFacts, ViewerFacts, ViewService, fresh_pass, CameToViews, HasViewed, IsViewDoor, ViewersTurned}
+use Rattle.mum_viewer.specs.Viewer.{IsOpened, has_ended}
 
 -- ---- the pass of the viewer is the last one
 

@@ -1,20 +1,6 @@
 -- What is written of a run that came to its end, with a journal or without one.
-use Rattle.std.proofs.Common.{◌≡◌, ℕ, ◌≤◌, Bool, true, false, List, length, Option, Result, Ok, Err, OnOk, OnErr, is_err, inl, inr, refl, arith}
-use Rattle.mum_crew.specs.Crew.{CrewCounts}
-use Rattle.mum_io.specs.Counts.{Rose}
-use Rattle.mum_io.specs.Outside.{Appends}
-use Rattle.mum_io.specs.Link.{LinkFacts}
-use Rattle.mum_io.specs.Door.{DoorFacts}
-use Rattle.mum_keeper.specs.Keeping.{KeeperFacts}
-use Rattle.mum_record.specs.Journal.{IsWritableJournal}
-use Rattle.mum_serve.specs.Asked.{Lent, Service}
-use Rattle.mum_serve.specs.Journals.{AreWritable, journal_of}
-use Rattle.mum_serve.specs.Program.{EndsWith, HasServed, RunsInCrew, WritesCounted, WritesText, written, written_of}
-use Rattle.mum_serve.specs.declared.entries.Entries.{Entries}
-use Rattle.mum_serve.specs.declared.program.Input.{Input}
-use Rattle.mum_serve.specs.declared.program.ServerEnd.{ServerEnd}
+use Rattle.mum_serve.proofs.Common.{◌≡◌, ℕ, ◌≤◌, Bool, true, false, List, length, Option, Result, Ok, Err, OnOk, OnErr, is_err, inl, inr, refl, arith, CrewCounts, Rose, Appends, LinkFacts, DoorFacts, KeeperFacts, IsWritableJournal, Lent, Service, AreWritable, journal_of, EndsWith, HasServed, RunsInCrew, WritesCounted, WritesText, written, written_of, Entries, Input, ServerEnd, Summary}
 use Rattle.mum_serve.specs.declared.program.ServerEnd.TheVariants as ends
-use Rattle.mum_serve.specs.declared.summary.Summary.{Summary}
 
 -- ---- the journal
 

@@ -1,16 +1,14 @@
 -- What a server is asked to do, as plain data.
 use Rattle.std.specs.Option.{option_copied, option_map}
 use Rattle.std.specs.Prelude.{ℕ, Bool, List, Option, Some}
-use Rattle.mum_serve.specs.declared.asked.Asked.{Asked}
-use Rattle.mum_serve.specs.declared.asked.Objects.{Objects}
-use Rattle.mum_serve.specs.declared.asked.ViewAsked.{ViewAsked}
+use Rattle.mum_serve.specs.declared.asked.{Asked.Asked, Objects.Objects, ViewAsked.ViewAsked}
 
--- a second door at this address, for at most so many views
+-- a second door at this address, for at most n views
 pub record ViewService : Type 0 where
   pub address : List ℕ
   pub views : ℕ
 
--- a door at this address, so many connections, a journal or none, a door for views or none, and a path at which channels are
+-- a door at this address, n connections, a journal or none, a door for views or none, and a path at which channels are
 -- kept, or none
 pub record Service : Type 0 where
   pub address : List ℕ

@@ -1,19 +1,16 @@
 -- Where a server begins: a published state, and the passes of it.
 use Rattle.std.specs.Prelude.{◌≡◌, ◌+◌, ◌<◌, ◌≤◌, [], length, Option}
 use Rattle.std.specs.List.{All}
-use Rattle.mum_kept.specs.declared.rows.KeptRows.{KeptRows}
-use Rattle.mum_published.specs.Calls.{IsFresh, appended, latest}
-use Rattle.mum_published.specs.Facts.{PublisherFacts}
 use Rattle.mum_state.specs.Proper.{IsProper}
-use Rattle.mum_serve.specs.Asked.{service}
-use Rattle.mum_serve.specs.Stores.{store_passes}
-use Rattle.mum_serve.specs.Views.{passes_for}
-use Rattle.mum_serve.specs.declared.asked.Asked.{Asked}
-use Rattle.mum_serve.specs.declared.start.Beginning.{Beginning}
+use Rattle.mum_published.specs.{Calls.IsFresh, Calls.appended, Calls.latest, Facts.PublisherFacts}
+use Rattle.mum_kept.specs.declared.rows.KeptRows.{KeptRows}
+use Rattle.mum_serve.specs.{Asked.service, Stores.store_passes, Views.passes_for}
+use Rattle.mum_serve.specs.declared.{asked.Asked.Asked, start.Beginning.Beginning}
 
 -- nothing was published or appended yet, the state is that of the publisher, and there is a fresh pass for each worker, for
 -- the viewer, where views are asked for, and for the store, where the keeper gave rows
-pub record Begins (publisher : PublisherFacts) (asked : Asked) (rows : Option KeptRows) (beginning : Beginning) : Type 0 where
+pub record Begins (publisher : PublisherFacts) (asked : Asked) (rows : Option KeptRows)
+    (beginning : Beginning) : Type 0 where
   pub state : beginning.state ≡ latest publisher
   pub fresh : appended publisher ≡ []
   pub pending : publisher.pending ≡ []

@@ -2,17 +2,14 @@
 use Rattle.std.specs.Prelude.{◌≡◌, List, map}
 use Rattle.std.specs.List.{AllByRecursion, AllPairs}
 use Rattle.mum_outbox.specs.Facts.{PassFacts, QueueId}
-use Rattle.mum_outbox.specs.declared.parcel.PostParcel.{PostParcel}
-use Rattle.mum_owner.specs.Bell.{SideFacts}
-use Rattle.mum_owner.specs.Facts.{OwnerFacts}
-use Rattle.mum_worker.specs.Boxes.{queues as queues_of}
-use Rattle.mum_worker.specs.Facts.{WorkerFacts}
-use Rattle.mum_worker.specs.Opening.{out_queues}
+use Rattle.mum_parcel.specs.Facts.{PostFacts}
+use Rattle.mum_worker.specs.{Boxes.queues as queues_of, Facts.WorkerFacts, Opening.out_queues}
+use Rattle.mum_owner.specs.{Bell.SideFacts, Facts.OwnerFacts}
 use Rattle.mum_serve.specs.Queues.{AreTwo}
 
 -- the boxes into which the control owner posts
-abbrev pub post_queues : List (PassFacts PostParcel) → List QueueId
-post_queues posts = map (λ (post : PassFacts PostParcel). post.queue) posts
+abbrev pub post_queues : List (PassFacts PostFacts) → List QueueId
+post_queues posts = map (λ (post : PassFacts PostFacts). post.queue) posts
 
 -- the bells into which an owner puts, by the places of their workers
 abbrev pub side_queues : {L : Type 0} → List (SideFacts L) → List QueueId

@@ -1,13 +1,12 @@
 -- The journal of a server.
 use Rattle.std.specs.Prelude.{ℕ, ◌+◌, ◌/◌, ◌%◌, min, Bool, true, false, List, Option, Some, None}
-use Rattle.mum_opening.specs.Opening.{greatest_limits}
 use Rattle.mum_record.specs.Journal.{Each, IsWritableControl, IsWritableEntry, ended_lines, lines_of}
-use Rattle.mum_record.specs.declared.journal.Journal.{Journal}
-use Rattle.mum_record.specs.declared.journal.WorkerEntry.{WorkerEntry}
+use Rattle.mum_record.specs.declared.journal.{Journal.Journal, WorkerEntry.WorkerEntry}
+use Rattle.mum_opening.specs.Opening.{greatest_limits}
 use Rattle.mum_worker.specs.Facts.{WorkerFacts}
 use Rattle.mum_serve.specs.declared.entries.Entries.{Entries}
 
--- of so many connections, those that may come to one of so many workers: as many to each, and one more where some are left
+-- of n connections, those that may come to one of m workers: as many to each, and one more where some are left
 abbrev pub per_worker : ℕ → ℕ → ℕ
 per_worker connections workers = connections / workers + min 1 (connections % workers)
 

@@ -1,16 +1,13 @@
 -- The keeper of a server before its run: it is opened and asked for its rows, where channels are kept; and what these are for.
 use Rattle.std.specs.Prelude.{◌≡◌, ⊤, ℕ, List, [], ◌∷◌, ◌++◌, IfSome, Option, Some, None, Result, Ok, Err}
-use Rattle.mum_config.specs.Limits.{settings_and_accounts}
 use Rattle.mum_io.specs.Counts.{Rose}
-use Rattle.mum_keeper.specs.Keeping.{AreRowsOf, KeeperFacts}
-use Rattle.mum_kept.specs.Good.{IsGood}
-use Rattle.mum_kept.specs.Rebuild.{rebuild}
-use Rattle.mum_kept.specs.declared.rows.KeptChannel.{KeptChannel}
-use Rattle.mum_kept.specs.declared.rows.KeptRows.{KeptRows}
-use Rattle.mum_opening.specs.Opening.{served_edits}
 use Rattle.mum_state.specs.declared.edit.Edit.{Edit}
-use Rattle.mum_state.specs.After.{after}
-use Rattle.mum_state.specs.State.{StateValue}
+use Rattle.mum_state.specs.{After.after, State.StateValue}
+use Rattle.mum_config.specs.Limits.{settings_and_accounts}
+use Rattle.mum_opening.specs.Opening.{served_edits}
+use Rattle.mum_kept.specs.{Good.IsGood, Rebuild.rebuild}
+use Rattle.mum_kept.specs.declared.rows.{KeptChannel.KeptChannel, KeptRows.KeptRows}
+use Rattle.mum_keeper.specs.Keeping.{AreRowsOf, KeeperFacts}
 use Rattle.mum_serve.specs.declared.load.LoadFault.{LoadFault}
 use Rattle.mum_serve.specs.declared.load.LoadFault.TheVariants as faults
 
@@ -65,7 +62,8 @@ module _ {P : Type 0} (keeper_facts : P → KeeperFacts) where
   abbrev pub FailsToLoad : Option (List ℕ) → P → P → Type 0
   FailsToLoad None keeper left = ⊥
   FailsToLoad (Some path) keeper left =
-      Rose (keeper_facts keeper).faults (keeper_facts left).faults × ((keeper_facts left).rows ≡ (keeper_facts keeper).rows)
+      Rose (keeper_facts keeper).faults (keeper_facts left).faults
+      × ((keeper_facts left).rows ≡ (keeper_facts keeper).rows)
 
   -- the keeper was to be opened, and gave rows that are not good
   abbrev pub LoadsBadRows : Option (List ℕ) → P → P → Type 0
@@ -76,15 +74,18 @@ module _ {P : Type 0} (keeper_facts : P → KeeperFacts) where
   abbrev pub IsUnchanged : Option (List ℕ) → P → P → Type 0
   IsUnchanged None keeper left = left ≡ keeper
   IsUnchanged (Some path) keeper left =
-      ((keeper_facts left).faults ≡ (keeper_facts keeper).faults) × ((keeper_facts left).rows ≡ (keeper_facts keeper).rows)
+      ((keeper_facts left).faults ≡ (keeper_facts keeper).faults)
+      × ((keeper_facts left).rows ≡ (keeper_facts keeper).rows)
 
   -- an open keeper gave rows that are good; or it did not, for this cause
   abbrev pub GivesRows : P → Result KeptRows LoadFault → P → Type 0
   GivesRows keeper (Ok rows) left = IsGood rows × AreRowsOf (keeper_facts left).rows rows × IsAsBefore keeper left
-  GivesRows keeper (Err faults.NotGood) left = (rows : KeptRows) × (IsGood rows → ⊥) × AreRowsOf (keeper_facts left).rows rows × IsAsBefore keeper left
+  GivesRows keeper (Err faults.NotGood) left =
+      (rows : KeptRows) × (IsGood rows → ⊥) × AreRowsOf (keeper_facts left).rows rows × IsAsBefore keeper left
   GivesRows keeper (Err faults.OutOfMemory) left = IsAsBefore keeper left
   GivesRows keeper (Err faults.Failed) left =
-      Rose (keeper_facts keeper).faults (keeper_facts left).faults × ((keeper_facts left).rows ≡ (keeper_facts keeper).rows)
+      Rose (keeper_facts keeper).faults (keeper_facts left).faults
+      × ((keeper_facts left).rows ≡ (keeper_facts keeper).rows)
 
   -- why no rows are there
   abbrev pub LoadsNothing : Option (List ℕ) → P → LoadFault → P → Type 0

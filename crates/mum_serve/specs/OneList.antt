@@ -1,7 +1,7 @@
 -- What the workers of a server saw and learnt, and what was published and accepted.
+use mathlib.Core.List.{IsPrefix}
 use Rattle.std.specs.List.{AllByRecursion}
 use Rattle.std.specs.Prelude.{List}
-use mathlib.Core.List.{IsPrefix}
 use Rattle.mum_published.specs.Facts.{PassFacts, PublisherFacts}
 use Rattle.mum_worker.specs.Facts.{WorkerFacts}
 
@@ -14,4 +14,5 @@ pub record IsWithin (publisher : PublisherFacts) (pass : PassFacts) : Type 0 whe
 
 -- so it is with the passes of these workers
 abbrev pub AreWithin : {L : Type 0} → PublisherFacts → List (WorkerFacts L) → Type 0
-AreWithin {L} publisher workers = AllByRecursion (λ (worker : WorkerFacts L). IsWithin publisher worker.common.router.pass) workers
+AreWithin {L} publisher workers =
+    AllByRecursion (λ (worker : WorkerFacts L). IsWithin publisher worker.common.router.pass) workers

@@ -1,32 +1,24 @@
 -- A run of the program that serves: what it reads, what it writes, and how it ends.
 use Rattle.std.specs.Option.{option_map}
 use Rattle.std.specs.Prelude.{◌≡◌, ⊤, ◌⊎◌, ℕ, Bool, true, false, List, [], ◌∷◌, ◌++◌, codes, decimal, IfSome, Option, Some, None, Result, Ok, Err}
-use Rattle.mum_config.specs.declared.config.Config.{Config}
+use Rattle.mum_io.specs.{Counts.Rose, Outside.Appends, Outside.AppendsFront, Outside.Keeps, Link.LinkFacts}
+use Rattle.mum_io.specs.Door.{DoorFacts}
 use Rattle.mum_crew.specs.Crew.{CrewCounts, RunCounts}
 use Rattle.mum_crew.specs.declared.crew.CrewEnd.TheVariants.{Ran}
-use Rattle.mum_document.specs.Fault.{Fault}
-use Rattle.mum_config.specs.Refusal.{told_fault}
-use Rattle.mum_config.specs.declared.refusal.BadConfig.{BadConfig as DocumentError}
-use Rattle.mum_config.specs.declared.refusal.BadConfig.TheVariants as errors
-use Rattle.mum_io.specs.Counts.{Rose}
-use Rattle.mum_io.specs.Outside.{Appends, AppendsFront, Keeps}
-use Rattle.mum_io.specs.Link.{LinkFacts}
-use Rattle.mum_io.specs.Door.{DoorFacts}
-use Rattle.mum_keeper.specs.Keeping.{KeeperFacts}
-use Rattle.mum_opening.specs.Opening.{described, document_edits, document_fault}
 use Rattle.mum_record.specs.Words.{line_of_words}
 use Rattle.mum_record.specs.declared.journal.Journal.{Journal}
-use Rattle.mum_serve.specs.Asked.{Lent, Service}
-use Rattle.mum_serve.specs.Journals.{journal_of, journal_text, where_asked}
+use Rattle.mum_document.specs.Fault.{Fault}
+use Rattle.mum_config.specs.declared.{config.Config.Config, refusal.BadConfig.BadConfig as DocumentError}
+use Rattle.mum_config.specs.Refusal.{told_fault}
+use Rattle.mum_opening.specs.Opening.{described, document_edits, document_fault}
+use Rattle.mum_keeper.specs.Keeping.{KeeperFacts}
+use Rattle.mum_serve.specs.{Asked.Lent, Asked.Service, Journals.journal_of, Journals.journal_text, Journals.where_asked}
 use Rattle.mum_serve.specs.Serving.{RunsCounted, ServesOver}
-use Rattle.mum_serve.specs.declared.entries.Entries.{Entries}
-use Rattle.mum_serve.specs.declared.program.Input.{Input}
-use Rattle.mum_serve.specs.declared.program.ServerEnd.{ServerEnd}
+use Rattle.mum_serve.specs.declared.{entries.Entries.Entries, program.Input.Input, program.ServerEnd.ServerEnd}
+use Rattle.mum_serve.specs.declared.{server.Served.Served, summary.Summary.Summary, totals.Totals.Totals}
 use Rattle.mum_serve.specs.declared.program.ServerEnd.TheVariants.{Finished, BadConfig, BadStore, ReadFault, WriteFault, DoorFault, CrewFault, KeeperFault, OutOfMemory}
-use Rattle.mum_serve.specs.declared.server.Served.{Served}
 use Rattle.mum_serve.specs.declared.server.Served.TheVariants.{Whole, KeeperFault as KeeperFails, BadStore as RowsAreBad, DoorFault as DoorStaysShut, CrewFault as CrewIsRefused, OutOfMemory as NothingStarts}
-use Rattle.mum_serve.specs.declared.summary.Summary.{Summary}
-use Rattle.mum_serve.specs.declared.totals.Totals.{Totals}
+use Rattle.mum_config.specs.declared.refusal.BadConfig.TheVariants as errors
 
 -- ---- what is read
 
@@ -70,7 +62,7 @@ Says left (Err end) = IfSome left (λ bytes. NamesFault end (document_fault byte
 
 -- ---- what is counted
 
--- a read that failed in the call is told as such, and no other end hides one
+-- a read that failed in the call is reported as such, and no other end hides one
 abbrev pub ReadsCounted : ServerEnd → ℕ → ℕ → Type 0
 ReadsCounted ReadFault old new = Rose old new
 ReadsCounted others old new = new ≡ old
@@ -124,7 +116,8 @@ written_of summary = written summary.no_memory summary.door_failed summary.keepe
 abbrev pub WritesText : List ℕ → Summary → ServerEnd → Option (List ℕ) → Option (List ℕ) → Type 0
 WritesText text summary Finished old new =
     (summary.no_memory ≡ false) × (summary.door_failed ≡ false) × (summary.keeper_failed ≡ false) × Appends old new text
-WritesText text summary DoorFault old new = (summary.no_memory ≡ false) × (summary.door_failed ≡ true) × Appends old new text
+WritesText text summary DoorFault old new =
+    (summary.no_memory ≡ false) × (summary.door_failed ≡ true) × Appends old new text
 WritesText text summary KeeperFault old new =
     (summary.no_memory ≡ false) × (summary.door_failed ≡ false) × (summary.keeper_failed ≡ true) × Appends old new text
 WritesText text summary WriteFault old new = AppendsFront old new text
@@ -138,25 +131,33 @@ text_of None summary = last_lines summary
 
 -- ---- how it ends
 
-module _ {D K P L : Type 0} (facts : L → LinkFacts) (door_facts : D → DoorFacts) (last calls : K → ℕ) (keeper_facts : P → KeeperFacts) where
+module _ {D K P L : Type 0} (facts : L → LinkFacts) (door_facts : D → DoorFacts) (last calls : K → ℕ)
+    (keeper_facts : P → KeeperFacts) where
   -- all were served, from the state that the configuration and the kept channels describe, in a run that the crew counted, and
   -- this is what was written of it
-  pub record HasServed (asked : Service) (input : Input) (end : ServerEnd) (objects left : Lent D K P) (old new : Option (List ℕ)) (crew crew_after : CrewCounts) : Type 0 where
+  pub record HasServed (asked : Service) (input : Input) (end : ServerEnd) (objects left : Lent D K P)
+      (old new : Option (List ℕ)) (crew crew_after : CrewCounts) : Type 0 where
     pub summary : Summary
     pub entries : Entries
-    pub serves : ServesOver facts door_facts last calls keeper_facts (document_edits input.document) asked input.config.workers objects (Whole summary entries) left
+    pub serves : ServesOver facts door_facts last calls keeper_facts
+        (document_edits input.document) asked input.config.workers objects (Whole summary entries) left
     pub ran : RunCounts Ran crew crew_after
-    pub writes : WritesText (text_of (where_asked asked.journal (journal_of input.config.workers input.document entries)) summary) summary end old new
+    pub writes : WritesText
+        (text_of (where_asked asked.journal
+        (journal_of input.config.workers input.document entries)) summary) summary end old new
 
   -- nobody was served, which is what it came to, and nothing is written
-  pub record ServesNobody (asked : Service) (input : Input) (served : Served) (objects left : Lent D K P) (old new : Option (List ℕ)) (crew crew_after : CrewCounts) : Type 0 where
-    pub serves : ServesOver facts door_facts last calls keeper_facts (document_edits input.document) asked input.config.workers objects served left
+  pub record ServesNobody (asked : Service) (input : Input) (served : Served) (objects left : Lent D K P)
+      (old new : Option (List ℕ)) (crew crew_after : CrewCounts) : Type 0 where
+    pub serves : ServesOver facts door_facts last calls keeper_facts
+        (document_edits input.document) asked input.config.workers objects served left
     pub counted : RunsCounted served crew crew_after
     pub keeps : Keeps old new
 
   -- all were served; or the keeper failed or gave bad rows, a door did not open, the crew did not start, or memory ran out, and
   -- nothing is written
-  abbrev pub EndsWith : Service → Input → ServerEnd → Lent D K P → Lent D K P → Option (List ℕ) → Option (List ℕ) → CrewCounts → CrewCounts → Type 0
+  abbrev pub EndsWith : Service → Input → ServerEnd → Lent D K P → Lent D K P → Option (List ℕ) → Option (List ℕ)
+      → CrewCounts → CrewCounts → Type 0
   EndsWith asked input KeeperFault objects left old new crew crew_after =
       HasServed asked input KeeperFault objects left old new crew crew_after
       ⊎ ServesNobody asked input KeeperFails objects left old new crew crew_after
@@ -175,7 +176,9 @@ module _ {D K P L : Type 0} (facts : L → LinkFacts) (door_facts : D → DoorFa
 
   -- the input describes a configuration, and the run ends with it; or it names a fault, the input failed or memory ran
   -- out, and nothing else happened
-  abbrev pub EndsAt : Service → Option (List ℕ) → ServerEnd → Lent D K P → Lent D K P → Option (List ℕ) → Option (List ℕ) → CrewCounts → CrewCounts → Type 0
+  abbrev pub EndsAt : Service → Option (List ℕ) → ServerEnd → Lent D K P → Lent D K P → Option (List ℕ)
+      → Option (List ℕ) → CrewCounts → CrewCounts → Type 0
   EndsAt asked bytes end objects left old new crew crew_after =
       ((input : Input) × IsInput bytes input × EndsWith asked input end objects left old new crew crew_after)
-      ⊎ (IsRefusal end × IfSome bytes (λ all. NamesFault end (document_fault all)) × (left ≡ objects) × Keeps old new × (crew_after ≡ crew))
+      ⊎ (IsRefusal end × IfSome bytes (λ all. NamesFault end (document_fault all)) × (left ≡ objects) × Keeps old new
+      × (crew_after ≡ crew))

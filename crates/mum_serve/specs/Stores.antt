@@ -3,20 +3,16 @@ use Rattle.std.specs.Option.{option_map, option_map_or}
 use Rattle.std.specs.Prelude.{◌≡◌, ⊤, ℕ, Bool, true, false, IfSome, Option, Some, None}
 use Rattle.mum_outbox.specs.Facts.{QueueId}
 use Rattle.mum_crew.specs.Turns.{TurnsLead}
-use Rattle.mum_crew.specs.declared.crew.CrewEnd.{CrewEnd}
-use Rattle.mum_crew.specs.declared.crew.CrewEnd.TheVariants.{Ran}
-use Rattle.mum_keeper.specs.Archive.{ArchiveFacts}
-use Rattle.mum_keeper.specs.Keeping.{AreRowsOf, KeeperFacts}
+use Rattle.mum_crew.specs.declared.crew.CrewEnd.{CrewEnd, TheVariants.Ran}
+use Rattle.mum_state.specs.State.{StateValue}
+use Rattle.mum_published.specs.Facts.{Opening, PublisherFacts}
+use Rattle.mum_kept.specs.declared.rows.KeptRows.{KeptRows}
+use Rattle.mum_keeper.specs.{Archive.ArchiveFacts, Keeping.AreRowsOf, Keeping.KeeperFacts}
 use Rattle.mum_keeper.specs.Mirror.{IsSince, MirrorFacts}
 use Rattle.mum_keeper.specs.Store.{IsOpened, Settles, StoreFacts, StoreTurned}
-use Rattle.mum_keeper.specs.declared.keeper.KeepEnd.{KeepEnd}
-use Rattle.mum_keeper.specs.declared.naming.KeeperOpening.{KeeperOpening}
-use Rattle.mum_kept.specs.declared.rows.KeptRows.{KeptRows}
+use Rattle.mum_keeper.specs.declared.{keeper.KeepEnd.KeepEnd, naming.KeeperOpening.KeeperOpening}
 use Rattle.mum_owner.specs.Facts.{OwnerFacts}
-use Rattle.mum_published.specs.Facts.{Opening, PublisherFacts}
-use Rattle.mum_state.specs.State.{StateValue}
-use Rattle.mum_serve.specs.OneList.{IsWithin}
-use Rattle.mum_serve.specs.Opened.{fresh_pass}
+use Rattle.mum_serve.specs.{OneList.IsWithin, Opened.fresh_pass}
 
 -- how many passes a store takes, where the keeper gave rows
 abbrev pub store_passes : Option KeptRows → ℕ
@@ -28,7 +24,8 @@ archive_queue owner = option_map (λ (side : ArchiveFacts). side.queue) owner.ar
 
 module _ {P : Type 0} where
   -- a store is new, over this keeper that gave these rows, and takes from the queue into which the owner puts
-  pub record StoreBegins (opening : Opening) (rows : KeptRows) (keeper : P) (archive : Option QueueId) (store : StoreFacts P) : Type 0 where
+  pub record StoreBegins (opening : Opening) (rows : KeptRows) (keeper : P) (archive : Option QueueId)
+      (store : StoreFacts P) : Type 0 where
     pub queue : QueueId
     pub is_archive : archive ≡ Some queue
     pub opened : IsOpened (fresh_pass opening) keeper rows queue store
@@ -62,7 +59,8 @@ module _ {P : Type 0} (keeper_facts : P → KeeperFacts) where
   StoresTurned (Some old) (Some new) = TurnsLead (StoreTurned keeper_facts) old new
 
   -- a store was opened so, and turns of its own led it to its end
-  pub record HasKept (opening : Opening) (rows : KeptRows) (keeper : P) (archive : Option QueueId) (store : StoreFacts P) : Type 0 where
+  pub record HasKept (opening : Opening) (rows : KeptRows) (keeper : P) (archive : Option QueueId)
+      (store : StoreFacts P) : Type 0 where
     pub first : StoreFacts P
     pub begun : StoreBegins opening rows keeper archive first
     pub turned : TurnsLead (StoreTurned keeper_facts) first store
@@ -78,7 +76,8 @@ module _ {P : Type 0} (keeper_facts : P → KeeperFacts) where
   -- what came of a store whose keeper had counted this: after its last turn it was settled once, with this state; whether a
   -- call failed or memory ran out, in a turn or then; and the keeper, at the path at which it was opened. Its count of
   -- faults rose exactly where a call failed
-  pub record LeavesKeeper (opening : KeeperOpening) (state : StateValue) (store : StoreFacts P) (failed no_memory : Bool) (left : P) : Type 0 where
+  pub record LeavesKeeper (opening : KeeperOpening) (state : StateValue) (store : StoreFacts P)
+      (failed no_memory : Bool) (left : P) : Type 0 where
     pub end : KeepEnd
     pub settled : MirrorFacts P
     pub settles : Settles keeper_facts store.mirror state end settled
@@ -88,9 +87,12 @@ module _ {P : Type 0} (keeper_facts : P → KeeperFacts) where
     pub since : IsSince opening (keeper_facts left) failed
 
   -- without a store nothing failed, and the keeper that was not used is as it was
-  abbrev pub CameToStore : KeeperOpening → StateValue → Option P → Option (StoreFacts P) → (failed no_memory : Bool) → P → Type 0
-  CameToStore opening state unused None failed no_memory left = (failed ≡ false) × (no_memory ≡ false) × (unused ≡ Some left)
-  CameToStore opening state unused (Some store) failed no_memory left = LeavesKeeper opening state store failed no_memory left
+  abbrev pub CameToStore : KeeperOpening → StateValue → Option P → Option (StoreFacts P) → (failed no_memory : Bool) → P
+      → Type 0
+  CameToStore opening state unused None failed no_memory left =
+      (failed ≡ false) × (no_memory ≡ false) × (unused ≡ Some left)
+  CameToStore opening state unused (Some store) failed no_memory left =
+      LeavesKeeper opening state store failed no_memory left
 
   -- where the roles have run a store is settled with this state, and nothing else of it changes; else it is as it was
   abbrev pub SettlesWhereRan : CrewEnd → StoreFacts P → StateValue → StoreFacts P → Type 0
@@ -98,6 +100,8 @@ module _ {P : Type 0} (keeper_facts : P → KeeperFacts) where
   SettlesWhereRan others old state new = new ≡ old
 
   -- what came of a store, by how the crew ended: it is settled only where the roles have run
-  abbrev pub EndsStore : CrewEnd → KeeperOpening → StateValue → Option P → Option (StoreFacts P) → (failed no_memory : Bool) → P → Type 0
-  EndsStore Ran opening state unused store failed no_memory left = CameToStore opening state unused store failed no_memory left
+  abbrev pub EndsStore : CrewEnd → KeeperOpening → StateValue → Option P → Option (StoreFacts P)
+      → (failed no_memory : Bool) → P → Type 0
+  EndsStore Ran opening state unused store failed no_memory left =
+      CameToStore opening state unused store failed no_memory left
   EndsStore others opening state unused store failed no_memory left = GivesKeeperBack unused store left

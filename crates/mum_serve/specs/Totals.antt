@@ -1,10 +1,8 @@
 -- What the roles of a server came to.
 use Rattle.std.specs.Prelude.{ℕ, ◌+◌, ◌-◌, ◌^◌, ◌||◌, false, min}
-use Rattle.mum_router.specs.Offering.{copies_of, full_of}
-use Rattle.mum_router.specs.Picking.{looks_of}
+use Rattle.mum_router.specs.{Offering.copies_of, Offering.full_of, Picking.looks_of}
 use Rattle.mum_worker.specs.Facts.{WorkerFacts}
-use Rattle.mum_serve.specs.declared.totals.Totals.{Totals}
-use Rattle.mum_serve.specs.declared.totals.WorkerTotals.{WorkerTotals}
+use Rattle.mum_serve.specs.declared.totals.{Totals.Totals, WorkerTotals.WorkerTotals}
 
 -- a sum of 64 bits that stays at its last value
 abbrev pub sum_64 : ℕ → ℕ → ℕ

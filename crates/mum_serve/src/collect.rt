@@ -32,7 +32,7 @@ use mum_worker::Worker;
 use std::mem::drop;
 use std::sync::Wait;
 
-/// What the roles of a server came to, and what they were given.
+// What the roles of a server came to, and what they were given.
 #[derive(Drop)]
 pub(crate) struct Collected<D: Drop, K: Drop, P: Drop> {
     pub(crate) summary: Summary,
@@ -100,9 +100,9 @@ fn either(one: bool, other: bool) -> bool
     one || other
 }
 
-/// Compares what the workers, the viewer and the store saw with what the owner published, and ends all. There is room for
-/// what each worker wrote down. Without a viewer its door was not used, and without a store the keeper was not. The store
-/// is settled where the roles have run.
+// Compares what the workers, the viewer and the store saw with what the owner published, and ends all. There is room for
+// what each worker wrote down. Without a viewer its door was not used, and without a store the keeper was not. The store
+// is settled where the roles have run.
 pub(crate) fn collect<
     D: Door + Send,
     K: Clock + Send,
@@ -123,7 +123,8 @@ pub(crate) fn collect<
         result.summary.totals result.entries result.objects.door }
     ensures views_came { CameToViews D.facts N.view unused.view roles.entry.viewer result.summary.viewed
         result.objects.view }
-    ensures store_came { (starved : Bool) × EndsStore P.facts end N.keeper (current roles.entry.owner.control) unused.keeper
+    ensures store_came { (starved : Bool)
+        × EndsStore P.facts end N.keeper (current roles.entry.owner.control) unused.keeper
         roles.entry.store result.summary.keeper_failed starved result.objects.keeper
         × (result.summary.no_memory ≡ ((ran_out roles.entry.owner roles.entry.workers.items || viewer_memory
         roles.entry.viewer) || starved)) }

@@ -15,8 +15,8 @@ pub struct Entries {
     pub by_worker: Items<Items<WorkerEntry>>,
 }
 
-/// For how many connections a worker takes the room of closing entries, where a journal is asked for: so many of
-/// all connections may come to one worker.
+// For how many connections a worker takes the room of closing entries, where a journal is asked for: n of
+// all connections may come to one worker.
 pub(crate) fn closing_room(journal: bool, connections: u32, workers: u8) -> Option<u32>
     requires { 0 < workers }
     ensures { result ≡ closing_room journal connections workers }
@@ -28,7 +28,7 @@ pub(crate) fn closing_room(journal: bool, connections: u32, workers: u8) -> Opti
     }
 }
 
-/// The journal of a server that read this document.
+// The journal of a server that read this document.
 pub(crate) fn journal_of(workers: u8, document: Octets, entries: Entries) -> Journal
     ensures { result ≡ journal_of workers document entries }
 {

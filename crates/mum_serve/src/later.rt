@@ -1,4 +1,4 @@
-//! The roles of a server behind its workers: the viewer, where views are asked for, and the store, where channels are kept.
+//! The roles of a server after its workers: the viewer, where views are asked for, and the store, where channels are kept.
 
 ghost use Rattle.std.specs.Prelude.{◌≡◌, ◌≤◌, ◌+◌, IfErr, IfOk, length};
 ghost use Rattle.std.specs.List.{All};
@@ -22,15 +22,15 @@ use std::alloc::Global;
 use std::mem::drop;
 use std::sync::Wait;
 
-/// What a server was lent and does not use: the door of the views without a viewer, and the keeper without a store.
+// What a server was lent and does not use: the door of the views without a viewer, and the keeper without a store.
 #[derive(Drop)]
 pub(crate) struct Unused<D: Drop, P: Drop> {
     pub(crate) view: Option<D>,
     pub(crate) keeper: Option<P>,
 }
 
-/// The viewer and the store, as far as these are asked for, the end of the store's bell that is the owner's, and what is
-/// not used without them.
+// The viewer and the store, as far as these are asked for, the end of the store's bell that is the owner's, and what is
+// not used without them.
 #[derive(Drop)]
 pub(crate) struct Later<
     D: Door + Send,
@@ -44,8 +44,8 @@ pub(crate) struct Later<
     pub(crate) unused: Unused<D, P>,
 }
 
-/// Opens the viewer and the store, as far as these are asked for, by the last of these passes. Where memory runs out, the
-/// door of the views and the keeper come back as they were.
+// Opens the viewer and the store, as far as these are asked for, by the last of these passes. Where memory runs out, the
+// door of the views and the keeper come back as they were.
 pub(crate) fn open_later<
     D: Door + Send,
     P: Keeper + Send,

@@ -8,7 +8,7 @@ use mum_keeper::{KeepEnd, Keeper, KeptRows, Loaded, good_rows};
 use std::alloc::Global;
 use std::mem::drop;
 
-/// Why a keeper gave no rows with which a server may begin.
+// Why a keeper gave no rows with which a server may begin.
 #[derive(Clone, Copy)]
 pub(crate) enum LoadFault {
     /// A call of it failed.
@@ -62,14 +62,15 @@ fn open_and_load<P: Keeper>(
     }
 }
 
-/// Where channels are kept, opens the keeper at that path, and asks it for its rows.
+// Where channels are kept, opens the keeper at that path, and asks it for its rows.
 pub(crate) fn load_rows<P: Keeper>(
     alloc: Global,
     path: Option<&str>,
     keeper: &mut P,
 ) -> Result<Option<KeptRows>, LoadFault>
     ensures loaded { IfOk result (Loads P.facts (option_copied path.entry) keeper.old keeper.new) }
-    ensures nothing { IfErr result (λ fault. LoadsNothing P.facts (option_copied path.entry) keeper.old fault keeper.new) }
+    ensures nothing { IfErr result
+        (λ fault. LoadsNothing P.facts (option_copied path.entry) keeper.old fault keeper.new) }
 {
     let Some(path) = path else {
         return Ok(None);

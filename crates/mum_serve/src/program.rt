@@ -177,7 +177,7 @@ fn write_last<O: Sink>(alloc: Global, summary: &Summary, output: &mut O) -> Serv
     written(summary)
 }
 
-// Writes a text, and the last lines behind it.
+// Writes a text, and the last lines after it.
 fn write_behind<O: Sink>(text: &[u8], lines: &[u8], summary: &Summary, output: &mut O) -> ServerEnd
     ensures writes { WritesText (text.now ++ lines.now) summary.now result (O.written output.old)
         (O.written output.new) }

@@ -9,7 +9,8 @@ ghost use Rattle.mum_serve.specs.Queues.{AreFor, AreNamedFrom, HaveShared, Share
 ghost use Rattle.mum_worker.specs.Boxes.{queues as queues_of};
 
 use mum_base::{OutOfMemory, SLOTS};
-use mum_outbox::{Bell, Desk, PostBox, Queue, VoiceBox};
+use mum_outbox::{Bell, Desk, Queue};
+use mum_parcel::{PostBox, VoiceBox};
 use mum_published::{BellItem, Naming};
 use mum_worker::{DeskItem, Shared, share_each};
 use std::alloc::{AllocError, Global};
@@ -19,7 +20,7 @@ use std::mem::drop;
 #[derive(Drop)]
 pub struct Queues<L, N: Naming> {
     /// The post box of each slot.
-    pub posts: Vec<PostBox>,
+    pub posts: Vec<PostBox<N>>,
     pub desk: Desk<DeskItem>,
     /// The bell of each worker.
     pub bells: Vec<Bell<BellItem<L, N>>>,
@@ -66,26 +67,26 @@ fn boxes<I: Drop, const CAPACITY: usize>(
 
 // The ends of the queues while workers get theirs: a box of each kind for each slot, and the desk.
 #[derive(Drop)]
-struct Ends {
-    voices: Vec<VoiceBox>,
-    posts: Vec<PostBox>,
+struct Ends<N: Naming> {
+    voices: Vec<VoiceBox<N>>,
+    posts: Vec<PostBox<N>>,
     desk: Desk<DeskItem>,
 }
 
 // Boxes, and those that one worker shares with them.
 #[derive(Drop)]
-struct SharedBoxes {
-    voices: Vec<VoiceBox>,
-    posts: Vec<PostBox>,
-    voice: Vec<VoiceBox>,
-    post: Vec<PostBox>,
+struct SharedBoxes<N: Naming> {
+    voices: Vec<VoiceBox<N>>,
+    posts: Vec<PostBox<N>>,
+    voice: Vec<VoiceBox<N>>,
+    post: Vec<PostBox<N>>,
 }
 
-fn share_boxes(
+fn share_boxes<N: Naming>(
     alloc: Global,
-    voices: Vec<VoiceBox>,
-    posts: Vec<PostBox>,
-) -> Result<SharedBoxes, OutOfMemory>
+    voices: Vec<VoiceBox<N>>,
+    posts: Vec<PostBox<N>>,
+) -> Result<SharedBoxes<N>, OutOfMemory>
     ensures voices { IfOk result (λ boxes. boxes.voices.items ≡ map lower_half voices.items) }
     ensures posts { IfOk result (λ boxes. boxes.posts.items ≡ map lower_half posts.items) }
     ensures voice { IfOk result (λ boxes. boxes.voice.items ≡ map upper_half voices.items) }
@@ -116,9 +117,9 @@ fn share_boxes(
 // What one worker shares: these queues, and this bell.
 fn share<L: Drop, N: Naming>(
     alloc: Global,
-    ends: Ends,
+    ends: Ends<N>,
     bell: Bell<BellItem<L, N>>,
-) -> Result<(Ends, Shared<L, N>), OutOfMemory>
+) -> Result<(Ends<N>, Shared<L, N>), OutOfMemory>
     ensures { IfOk result (λ both. SharesHalf ends both.0 bell both.1) }
 {
     let Ends {
@@ -166,7 +167,7 @@ fn share<L: Drop, N: Naming>(
     }
 }
 
-/// A bell of this name, twice.
+// A bell of this name, twice.
 pub(crate) fn new_bell<I: Drop>(alloc: Global, name: u32) -> Result<(Bell<I>, Bell<I>), OutOfMemory>
     ensures same { IfOk result (λ both. both.1.queue ≡ both.0.queue) }
     ensures name { IfOk result (λ both. both.0.queue.name ≡ name) }
@@ -206,10 +207,10 @@ fn push_both<A: Drop, B: Drop>(
 fn add_worker<L: Drop, N: Naming>(
     alloc: Global,
     worker: u8,
-    ends: Ends,
+    ends: Ends<N>,
     bells: &mut Vec<Bell<BellItem<L, N>>>,
     shared: &mut Vec<Shared<L, N>>,
-) -> Result<Ends, OutOfMemory>
+) -> Result<Ends<N>, OutOfMemory>
     requires few { worker < 8 }
     requires shared { HaveShared worker ends bells.old.items shared.old.items }
     ensures { IfOk result (λ ends. HaveShared (worker + 1) ends bells.new.items shared.new.items) }
@@ -238,8 +239,8 @@ fn add_worker<L: Drop, N: Naming>(
 }
 
 impl<L: Drop, N: Naming> Queues<L, N> {
-    /// Empty queues for this many workers: two boxes for each slot, a desk, and a bell for each worker. All workers
-    /// share the boxes and the desk, and each has the bell at its place.
+    // Empty queues for this many workers: two boxes for each slot, a desk, and a bell for each worker. All workers
+    // share the boxes and the desk, and each has the bell at its place.
     pub(crate) fn new(alloc: Global, workers: u8) -> Result<Queues<L, N>, OutOfMemory>
         requires { workers ≤ 8 }
         ensures { IfOk result (AreFor workers) }

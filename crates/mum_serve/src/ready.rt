@@ -33,8 +33,8 @@ use std::alloc::Global;
 use std::mem::drop;
 use std::sync::Wait;
 
-/// What is kept until a crew has run: the door of the views and the keeper where they are not used, and room for the workers and for what
-/// each of them will have written down.
+// What is kept until a crew has run: the door of the views and the keeper where they are not used, and room for the workers and for what
+// each of them will have written down.
 #[derive(Drop)]
 pub(crate) struct Reserved<
     D: Door + Send,
@@ -47,7 +47,7 @@ pub(crate) struct Reserved<
     pub(crate) entries: Vec<Items<WorkerEntry>>,
 }
 
-/// What a crew is given to run, and what is kept until it has.
+// What a crew is given to run, and what is kept until it has.
 #[derive(Drop)]
 pub(crate) struct Ready<
     'a,
@@ -227,8 +227,8 @@ fn listed<
     }
 }
 
-/// The roles of a server before their first turn, with room for what will come of them. Where memory runs out, the doors,
-/// the clock and the keeper come back as they were.
+// The roles of a server before their first turn, with room for what will come of them. Where memory runs out, the doors,
+// the clock and the keeper come back as they were.
 pub(crate) fn open_roles<
     'a,
     D: Door + Send,
@@ -272,8 +272,8 @@ pub(crate) fn open_roles<
     }
 }
 
-/// What the roles came to that a crew gave back: as many workers as it was given, and a viewer and a store where there was
-/// one. The store is settled where the roles have run.
+// What the roles came to that a crew gave back: as many workers as it was given, and a viewer and a store where there was
+// one. The store is settled where the roles have run.
 pub(crate) fn end_roles<
     D: Door + Send,
     K: Clock + Send,

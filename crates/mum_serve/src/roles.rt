@@ -14,7 +14,7 @@ use mum_worker::{Worker, WorkerOpening};
 use std::mem::drop;
 use std::sync::Wait;
 
-/// One of the roles of a server: the first is the owner of the connections, then come its workers, and behind them the
+/// One of the roles of a server: the first is the owner of the connections, then come its workers, and after them the
 /// viewer and the store, where there are any.
 #[derive(Drop)]
 pub enum Roles<
@@ -70,7 +70,7 @@ impl<
     }
 }
 
-/// The roles of a server, apart.
+// The roles of a server, apart.
 #[derive(Drop)]
 pub(crate) struct Parted<
     'a,
@@ -87,7 +87,7 @@ pub(crate) struct Parted<
     pub(crate) store: Option<Store<P, N, R>>,
 }
 
-// Puts the viewer, where there is one, behind these roles. There is room for it.
+// Puts the viewer, where there is one, after these roles. There is room for it.
 fn push_viewer<
     'a,
     D: Entrance,
@@ -106,7 +106,7 @@ fn push_viewer<
     }
 }
 
-// Puts the store, where there is one, behind these roles. There is room for it.
+// Puts the store, where there is one, after these roles. There is room for it.
 fn push_store<
     'a,
     D: Entrance,
@@ -124,7 +124,7 @@ fn push_store<
     }
 }
 
-/// All roles of a server as one list, in their order. There is room for them.
+// All roles of a server as one list, in their order. There is room for them.
 pub(crate) fn together<
     'a,
     D: Entrance,
@@ -188,7 +188,7 @@ fn take_apart<
     }
 }
 
-/// The roles of such a list, apart. There is room for the workers.
+// The roles of such a list, apart. There is room for the workers.
 pub(crate) fn apart<
     'a,
     D: Entrance,

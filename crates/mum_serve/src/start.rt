@@ -35,7 +35,7 @@ use std::alloc::{AllocError, Global};
 use std::mem::drop;
 use std::sync::Wait;
 
-/// Where a server begins.
+// Where a server begins.
 #[derive(Drop)]
 pub(crate) struct Beginning {
     /// The state that is published.
@@ -45,7 +45,7 @@ pub(crate) struct Beginning {
     pub(crate) passes: Vec<Pass>,
 }
 
-/// The owner and the workers.
+// The owner and the workers.
 #[derive(Drop)]
 pub(crate) struct Started<
     'a,
@@ -114,7 +114,7 @@ fn make_parts<'a, L: Drop, N: Naming>(
     }
 }
 
-// A worker for each pass, in the order of their numbers. Where a journal is asked for, each takes the room of so many
+// A worker for each pass, in the order of their numbers. Where a journal is asked for, each takes the room of n
 // closing entries.
 fn open_workers<D: Door + Send, N: Serving + Viewing + Keeping, R: Wait + Copy + Send>(
     rt: &R,
@@ -156,9 +156,9 @@ fn open_workers<D: Door + Send, N: Serving + Viewing + Keeping, R: Wait + Copy +
     Ok(workers)
 }
 
-/// The roles of a server over a publisher and the passes of its workers: the owner, and the workers in the order of
-/// their numbers, joined by the same queues; the owner has the bell of a store, if there is one. Where a journal is asked for, each worker has room for one closing entry of
-/// each connection that it may get. Where memory runs out, the door and the clock come back as they were.
+// The roles of a server over a publisher and the passes of its workers: the owner, and the workers in the order of
+// their numbers, joined by the same queues; the owner has the bell of a store, if there is one. Where a journal is asked for, each worker has room for one closing entry of
+// each connection that it may get. Where memory runs out, the door and the clock come back as they were.
 pub(crate) fn start<
     'a,
     D: Door + Send,

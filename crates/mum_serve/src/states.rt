@@ -69,7 +69,8 @@ fn have_numbers(channels: &[KeptChannel])
 fn rebuilt_state(alloc: Global, edits: &[Edit], rows: &KeptRows) -> Result<State, OutOfMemory>
     requires alone { FitAfterLimits (settings_and_accounts edits.now) }
     requires rows { IsTree rows.now }
-    ensures { IfOk result (λ state. state ≡ after (served_edits (settings_and_accounts edits.now ++ rebuild rows.now))) }
+    ensures { IfOk result
+        (λ state. state ≡ after (served_edits (settings_and_accounts edits.now ++ rebuild rows.now))) }
 {
     have_numbers(rows.channels.as_slice());
     let channels = rebuild(alloc, rows)?;
@@ -78,8 +79,8 @@ fn rebuilt_state(alloc: Global, edits: &[Edit], rows: &KeptRows) -> Result<State
     state_from(state, &channels)
 }
 
-/// The state at which a server begins that is given these edits of a configuration, and these rows, where channels are
-/// kept.
+// The state at which a server begins that is given these edits of a configuration, and these rows, where channels are
+// kept.
 pub(crate) fn first_state(
     alloc: Global,
     edits: &[Edit],

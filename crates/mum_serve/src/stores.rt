@@ -17,7 +17,7 @@ use std::alloc::Global;
 use std::mem::drop;
 use std::sync::Wait;
 
-/// The store, where channels are kept, with the end of its bell that is the owner's; and else the keeper that is not used.
+// The store, where channels are kept, with the end of its bell that is the owner's; and else the keeper that is not used.
 #[derive(Drop)]
 pub(crate) struct StoreSide<P: Keeper + Send, N: Keeping, R: Wait + Copy + Send> {
     pub(crate) store: Option<Store<P, N, R>>,
@@ -25,8 +25,8 @@ pub(crate) struct StoreSide<P: Keeper + Send, N: Keeping, R: Wait + Copy + Send>
     pub(crate) unused: Option<P>,
 }
 
-/// Opens a store over a keeper that gave rows, by the last of these passes; without rows there is none. Where memory runs
-/// out, the keeper comes back as it was.
+// Opens a store over a keeper that gave rows, by the last of these passes; without rows there is none. Where memory runs
+// out, the keeper comes back as it was.
 pub(crate) fn open_store<P: Keeper + Send, N: Keeping, R: Wait + Copy + Send>(
     rt: &R,
     alloc: Global,
@@ -72,7 +72,7 @@ pub(crate) fn open_store<P: Keeper + Send, N: Keeping, R: Wait + Copy + Send>(
     }
 }
 
-/// Takes the keeper back from a store that made no turn, or where there is none.
+// Takes the keeper back from a store that made no turn, or where there is none.
 pub(crate) fn keeper_of<P: Keeper + Send, N: Keeping, R: Wait + Copy + Send>(
     store: Option<Store<P, N, R>>,
     unused: Option<P>,
@@ -105,7 +105,7 @@ fn settle<P: Keeper + Send, N: Keeping, R: Wait + Copy + Send>(
     }
 }
 
-/// Ends the store, where there is one, and takes the keeper back. It is settled with this state, where the roles have run.
+// Ends the store, where there is one, and takes the keeper back. It is settled with this state, where the roles have run.
 pub(crate) fn end_store<P: Keeper + Send, N: Keeping, R: Wait + Copy + Send>(
     store: Option<Store<P, N, R>>,
     unused: Option<P>,

@@ -31,7 +31,7 @@ pub struct Totals {
     pub stale: u64,
 }
 
-/// What workers came to.
+// What workers came to.
 #[derive(Clone, Copy)]
 pub(crate) struct WorkerTotals {
     pub(crate) looks: u64,
@@ -55,7 +55,7 @@ impl WorkerTotals {
         }
     }
 
-    /// Ends a worker, and adds what it came to. Its entries are handed on.
+    // Ends a worker, and adds what it came to. Its entries are handed on.
     pub(crate) fn add<L: Link, G: Gate, N: Naming, R: Wait + Copy>(
         &mut self,
         worker: Worker<L, G, N, R>,
@@ -82,7 +82,7 @@ impl WorkerTotals {
 }
 
 impl Totals {
-    /// Those of a server whose owner counted this many connections and edits.
+    // Those of a server whose owner counted this many connections and edits.
     pub(crate) fn of(connections: u32, accepted: u64, workers: WorkerTotals) -> Totals
         ensures { result ≡ totals_of connections accepted workers }
     {

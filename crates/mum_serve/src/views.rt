@@ -16,14 +16,14 @@ use std::alloc::Global;
 use std::mem::drop;
 use std::sync::Wait;
 
-/// The viewer, where views are asked for, and else the door that is not used.
+// The viewer, where views are asked for, and else the door that is not used.
 #[derive(Drop)]
 pub(crate) struct ViewDoor<D: Door + Send, N: Viewing, R: Wait + Copy + Send> {
     pub(crate) viewer: Option<Viewer<D, N, R>>,
     pub(crate) unused: Option<D>,
 }
 
-/// What came of the views of a server.
+// What came of the views of a server.
 #[derive(Drop)]
 pub(crate) struct Viewed<D: Drop> {
     pub(crate) door: D,
@@ -33,8 +33,8 @@ pub(crate) struct Viewed<D: Drop> {
     pub(crate) door_failed: bool,
 }
 
-/// Opens a viewer over a door that is open, by the last of these passes, where views are asked for. Where memory runs
-/// out, the door comes back as it was.
+// Opens a viewer over a door that is open, by the last of these passes, where views are asked for. Where memory runs
+// out, the door comes back as it was.
 pub(crate) fn open_viewer<D: Door + Send, N: Viewing, R: Wait + Copy + Send>(
     rt: &R,
     alloc: Global,
@@ -68,7 +68,7 @@ pub(crate) fn open_viewer<D: Door + Send, N: Viewing, R: Wait + Copy + Send>(
     })
 }
 
-/// Ends the viewer, where there is one, and takes the door of the views back.
+// Ends the viewer, where there is one, and takes the door of the views back.
 pub(crate) fn end_viewer<D: Door + Send, N: Viewing, R: Wait + Copy + Send>(
     viewer: Option<Viewer<D, N, R>>,
     unused: Option<D>,

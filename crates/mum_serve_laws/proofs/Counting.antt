@@ -1,46 +1,6 @@
 -- The copies of the packets that turns of a worker route, and how they are counted.
-use Rattle.std.proofs.Common.{◌≡◌, ◌∙◌, ℕ, zero, suc, ◌+◌, ◌≤◌, min, not, Bool, true, false, cond, List, [], ◌∷◌, ◌++◌, length, filter, Option, Some, None, refl, ap, sym, subst, arith, length-append}
-use Rattle.std.specs.Prelude.{All, slice_get, slice_set}
-use Rattle.std.specs.List.{FoldsTo, sum_by}
-use Rattle.std.proofs.lemmas.List.Elements.{All-append, All-cons, All-head, All-nil, All-tail, filter_map-append}
-use Rattle.std.proofs.lemmas.List.Sums.{sum_by-append, sum_by-cons}
-use mathlib.Core.Logic.{inl, inr}
-use Rattle.mum_base.specs.declared.number.SessionId.{SessionId}
-use Rattle.mum_base.specs.declared.number.TheConstants.{VOICE_CAPACITY}
-use Rattle.mum_crew.specs.Along.{Along}
-use Rattle.mum_crew.specs.Turns.{TurnsTo}
-use Rattle.mum_crew.specs.declared.role.Turn.{Turn}
-use Rattle.mum_io.specs.Link.{LinkFacts}
-use Rattle.mum_outbox.specs.Calls.{Offers}
-use Rattle.mum_outbox.specs.Facts.{PassFacts as BoxFacts}
-use Rattle.mum_outbox.specs.declared.parcel.VoiceParcel.{VoiceParcel}
-use Rattle.mum_outbox.specs.declared.queue.Offered.TheVariants.{Sent, Full}
-use Rattle.mum_outbox.specs.declared.queue.Offered.{Offered}
-use Rattle.mum_outbox.specs.declared.rule.TheConstants.{LAST}
-use Rattle.mum_port.specs.Did.{action_of}
-use Rattle.mum_port.specs.Facts.{PortFacts}
-use Rattle.mum_published.specs.declared.roll.Login.{Login}
-use Rattle.mum_published.specs.Bell.{Rung, Answer, Comes, Lagging, NoMore}
-use Rattle.mum_published.specs.Calls.{ask_at}
-use Rattle.mum_published.specs.Facts.{NoteFacts, Opening, PassFacts}
-use Rattle.mum_published.specs.declared.rule.AskAt.{AskAt}
-use Rattle.mum_router.specs.Facts.{RouterFacts}
-use Rattle.mum_router.specs.Offering.{Delivers, Delivery, Outs, is_sent, parcel_for, was_sent}
-use Rattle.mum_router.specs.Picking.{ask_of, looks_of}
-use Rattle.mum_router.specs.Routing.{RoutesAt}
-use Rattle.mum_router.specs.declared.offering.Routed.{Routed}
-use Rattle.mum_state.specs.declared.edit.Edit.{Edit}
-use Rattle.mum_voice.specs.Packet.{Parts}
+use Rattle.mum_serve_laws.proofs.Common.{◌≡◌, ◌∙◌, ℕ, zero, suc, ◌+◌, ◌≤◌, min, not, Bool, true, false, cond, List, [], ◌∷◌, ◌++◌, length, filter, Option, Some, None, refl, ap, sym, subst, arith, length-append, All, slice_get, slice_set, FoldsTo, sum_by, All-append, All-cons, All-head, All-nil, All-tail, filter_map-append, sum_by-append, sum_by-cons, inl, inr, SessionId, VOICE_CAPACITY, Along, TurnsTo, Turn, LinkFacts, Offers, BoxFacts, VoiceFacts, Sent, Full, Offered, LAST, action_of, PortFacts, told_by_passes, Login, Rung, Answer, Comes, Lagging, NoMore, ask_at, NoteFacts, Opening, PassFacts, AskAt, RouterFacts, Delivers, Delivery, Outs, is_sent, parcel_for, was_sent, ask_of, looks_of, RoutesAt, Routed, Edit, Parts, BoxesFacts, WorkerFacts, Admits, Hears, LearnsGiven, HasOpened, IsUnused, CommonFacts, RoutesPacket, PortSteps, Shares, Turned, WorkerTurned, shares_of, Look, Moment, Told, Looked, Took, history, look_in, look_made, look_stepped, looks_in, moments_along, moments_of, moments_stepped, takes_by, told_by, GoesToHearers, copies_refused, copies_sent}
 use Rattle.mum_session.specs.Machine.{session_of}
-use Rattle.mum_worker.specs.Boxes.{BoxesFacts}
-use Rattle.mum_worker.specs.Facts.{WorkerFacts}
-use Rattle.mum_worker.specs.Hearing.{Admits, Hears, LearnsGiven}
-use Rattle.mum_worker.specs.Opening.{HasOpened, IsUnused}
-use Rattle.mum_worker.specs.Routing.{CommonFacts, RoutesPacket}
-use Rattle.mum_worker.specs.Stepping.{PortSteps, Shares}
-use Rattle.mum_worker.specs.Turning.{Turned, WorkerTurned, shares_of}
-use Rattle.mum_worker_laws.specs.Laws.{Look, Moment, Told, Looked, history, look_in, look_made, look_stepped, looks_along, looks_in, moments_of, told_by}
-use Rattle.mum_serve_laws.specs.Counted.{GoesToHearers, copies_refused, copies_sent}
 use Rattle.mum_serve_laws.proofs.Handled.{handled}
 
 -- ---- sums
@@ -118,65 +78,65 @@ count_first test x xs = one_first (test x) x (filter test xs)
 
 -- ---- the copies of one packet
 
-abbrev offered_by : BoxFacts VoiceParcel → ℕ
+abbrev offered_by : BoxFacts VoiceFacts → ℕ
 offered_by pass = length pass.offered
 
-abbrev full_by : BoxFacts VoiceParcel → ℕ
+abbrev full_by : BoxFacts VoiceFacts → ℕ
 full_by pass = pass.full
 
 abbrev was_refused : Delivery → Bool
 was_refused delivery = not (was_sent delivery)
 
-sent_one : (answer : Offered VoiceParcel) (parcel : VoiceParcel) (old new : BoxFacts VoiceParcel) → Offers VOICE_CAPACITY old parcel answer new
+sent_one : (answer : Offered VoiceFacts) (parcel : VoiceFacts) (old new : BoxFacts VoiceFacts) → Offers VOICE_CAPACITY old parcel answer new
     → length new.offered ≡ length old.offered + one (is_sent answer)
 sent_one Sent parcel old new offers =
-    let is : length new.offered ≡ length (old.offered ++ parcel ∷ []) = ap (λ (p : BoxFacts VoiceParcel). length p.offered) offers in
+    let is : length new.offered ≡ length (old.offered ++ parcel ∷ []) = ap (λ (p : BoxFacts VoiceFacts). length p.offered) offers in
     let more = length-append old.offered (parcel ∷ []) in
     omega (arith, is, more)
 sent_one (Full back) parcel old new offers =
-    let is : length new.offered ≡ length old.offered = ap (λ (p : BoxFacts VoiceParcel). length p.offered) offers.1 in
+    let is : length new.offered ≡ length old.offered = ap (λ (p : BoxFacts VoiceFacts). length p.offered) offers.1 in
     none_more (length new.offered) (length old.offered) 0 is refl
 
-sent_delivered : (speaker : SessionId) (packet : Parts) (outs : Outs) (d : Delivery) (after : Outs) → Delivers speaker packet outs d after
+sent_delivered : (edits : List Edit) (speaker : SessionId) (packet : Parts) (outs : Outs) (d : Delivery) (after : Outs) → Delivers edits speaker packet outs d after
     → sum_by offered_by after ≡ sum_by offered_by outs + one (was_sent d)
-sent_delivered speaker packet outs d after delivers =
+sent_delivered edits speaker packet outs d after delivers =
     set_more (sum_by offered_by after) (sum_by offered_by (slice_set outs d.hearer.slot.0 delivers.new)) (sum_by offered_by outs)
     (length delivers.old.offered) (length delivers.new.offered) (one (was_sent d))
     (ap (λ (os : Outs). sum_by offered_by os) delivers.others)
     (sum_set offered_by outs d.hearer.slot.0 delivers.old delivers.new delivers.box)
-    (sent_one d.answer (parcel_for speaker packet d.hearer) delivers.old delivers.new delivers.offers)
+    (sent_one d.answer (parcel_for edits speaker packet d.hearer) delivers.old delivers.new delivers.offers)
 
-full_answered : (answer : Offered VoiceParcel) (parcel : VoiceParcel) (old new : BoxFacts VoiceParcel) (after set before told : ℕ) → Offers VOICE_CAPACITY old parcel answer new
+full_answered : (answer : Offered VoiceFacts) (parcel : VoiceFacts) (old new : BoxFacts VoiceFacts) (after set before told : ℕ) → Offers VOICE_CAPACITY old parcel answer new
     → after ≡ set → set + old.full ≡ before + new.full → old.full ≤ before → IsUpTo LAST before told → IsUpTo LAST after (told + one (not (is_sent answer)))
 full_answered Sent parcel old new after set before told offers is so part counted =
-    same_set after set before old.full new.full told LAST is so (ap (λ (p : BoxFacts VoiceParcel). p.full) offers) counted
+    same_set after set before old.full new.full told LAST is so (ap (λ (p : BoxFacts VoiceFacts). p.full) offers) counted
 full_answered (Full back) parcel old new after set before told offers is so part counted =
-    full_set after set before old.full new.full told LAST is so part (ap (λ (p : BoxFacts VoiceParcel). p.full) offers.1) counted
+    full_set after set before old.full new.full told LAST is so part (ap (λ (p : BoxFacts VoiceFacts). p.full) offers.1) counted
 
-full_delivered : (speaker : SessionId) (packet : Parts) (outs : Outs) (d : Delivery) (after : Outs) (told : ℕ) → Delivers speaker packet outs d after
+full_delivered : (edits : List Edit) (speaker : SessionId) (packet : Parts) (outs : Outs) (d : Delivery) (after : Outs) (told : ℕ) → Delivers edits speaker packet outs d after
     → IsUpTo LAST (sum_by full_by outs) told → IsUpTo LAST (sum_by full_by after) (told + one (was_refused d))
-full_delivered speaker packet outs d after told delivers counted =
-    full_answered d.answer (parcel_for speaker packet d.hearer) delivers.old delivers.new
+full_delivered edits speaker packet outs d after told delivers counted =
+    full_answered d.answer (parcel_for edits speaker packet d.hearer) delivers.old delivers.new
     (sum_by full_by after) (sum_by full_by (slice_set outs d.hearer.slot.0 delivers.new)) (sum_by full_by outs) told delivers.offers
     (ap (λ (os : Outs). sum_by full_by os) delivers.others)
     (sum_set full_by outs d.hearer.slot.0 delivers.old delivers.new delivers.box)
     (part_of full_by outs d.hearer.slot.0 delivers.old delivers.box) counted
 
-sent_all : (speaker : SessionId) (packet : Parts) (ds : List Delivery) (outs after : Outs) → FoldsTo (Delivers speaker packet) outs ds after
+sent_all : (edits : List Edit) (speaker : SessionId) (packet : Parts) (ds : List Delivery) (outs after : Outs) → FoldsTo (Delivers edits speaker packet) outs ds after
     → sum_by offered_by after ≡ sum_by offered_by outs + length (filter was_sent ds)
-sent_all speaker packet [] outs after done =
+sent_all edits speaker packet [] outs after done =
     none_more (sum_by offered_by after) (sum_by offered_by outs) 0 (ap (λ (os : Outs). sum_by offered_by os) (sym done)) refl
-sent_all speaker packet (d ∷ ds) outs after done =
+sent_all edits speaker packet (d ∷ ds) outs after done =
     then_more (sum_by offered_by after) (sum_by offered_by done.0) (sum_by offered_by outs) (one (was_sent d)) (length (filter was_sent ds)) (length (filter was_sent (d ∷ ds)))
-    (sent_all speaker packet ds done.0 after done.2) (sent_delivered speaker packet outs d done.0 done.1) (count_first was_sent d ds)
+    (sent_all edits speaker packet ds done.0 after done.2) (sent_delivered edits speaker packet outs d done.0 done.1) (count_first was_sent d ds)
 
-full_all : (speaker : SessionId) (packet : Parts) (ds : List Delivery) (outs after : Outs) (told : ℕ) → FoldsTo (Delivers speaker packet) outs ds after
+full_all : (edits : List Edit) (speaker : SessionId) (packet : Parts) (ds : List Delivery) (outs after : Outs) (told : ℕ) → FoldsTo (Delivers edits speaker packet) outs ds after
     → IsUpTo LAST (sum_by full_by outs) told → IsUpTo LAST (sum_by full_by after) (told + length (filter was_refused ds))
-full_all speaker packet [] outs after told done counted =
+full_all edits speaker packet [] outs after told done counted =
     up_none (sum_by full_by after) (sum_by full_by outs) told 0 LAST (ap (λ (os : Outs). sum_by full_by os) (sym done)) refl counted
-full_all speaker packet (d ∷ ds) outs after told done counted =
+full_all edits speaker packet (d ∷ ds) outs after told done counted =
     up_then (sum_by full_by after) told (one (was_refused d)) (length (filter was_refused ds)) (length (filter was_refused (d ∷ ds))) LAST
-    (full_all speaker packet ds done.0 after (told + one (was_refused d)) done.2 (full_delivered speaker packet outs d done.0 told done.1 counted))
+    (full_all edits speaker packet ds done.0 after (told + one (was_refused d)) done.2 (full_delivered edits speaker packet outs d done.0 told done.1 counted))
     (count_first was_refused d ds)
 
 -- ---- what moments count
@@ -228,9 +188,9 @@ saw opening connection old speaker packet edits deliveries new routed routes =
     let look : Look = record { connection = connection; speaker = speaker; packet = packet; edits = edits; deliveries = deliveries } in
     let asks : length new.pass.asks ≡ length (old.pass.asks ++ ask_at edits (ask_of speaker packet) ∷ []) = ap (λ (r : RouterFacts). length r.pass.asks) routes.router in record {
       looks = asks ∙ length-append old.pass.asks (ask_at edits (ask_of speaker packet) ∷ []);
-      sent = sent_all speaker packet deliveries old.outs new.outs routes.offers
+      sent = sent_all edits speaker packet deliveries old.outs new.outs routes.offers
           ∙ ap (λ (n : ℕ). sum_by offered_by old.outs + n) (sym (sum_one copies_sent look));
-      full = λ told counted. full_all speaker packet deliveries old.outs new.outs told routes.offers counted
+      full = λ told counted. full_all edits speaker packet deliveries old.outs new.outs told routes.offers counted
           ∙ ap (λ (n : ℕ). min (told + n) LAST) (sym (sum_one copies_refused look));
       hearers = All-cons (GoesToHearers opening) look [] routes.each (All-nil (GoesToHearers opening));
     }
@@ -256,7 +216,7 @@ two_none : (both first rest : ℕ) → both ≡ first + rest → first ≡ 0 →
 two_none both first rest is one other = omega (arith, is, one, other)
 
 -- passes that did nothing
-unused_sum : (f : BoxFacts VoiceParcel → ℕ) → ((pass : BoxFacts VoiceParcel) → IsUnused pass → f pass ≡ 0) → (outs : Outs) → All IsUnused outs → sum_by f outs ≡ 0
+unused_sum : (f : BoxFacts VoiceFacts → ℕ) → ((pass : BoxFacts VoiceFacts) → IsUnused pass → f pass ≡ 0) → (outs : Outs) → All IsUnused outs → sum_by f outs ≡ 0
 unused_sum f none [] unused = refl
 unused_sum f none (pass ∷ outs) unused =
     two_none (sum_by f (pass ∷ outs)) (f pass) (sum_by f outs) (sum_by-cons f pass outs) (none pass (All-head IsUnused pass outs unused))
@@ -282,20 +242,23 @@ module _ (opening : Opening) where
 
   module _ {L : Type 0} (facts : L → LinkFacts) where
     stepped : (boxes : BoxesFacts) (old : PortFacts L) (before : Shares) (new : PortFacts L) (after : Shares) (steps : PortSteps facts opening boxes old before new after)
-        → CountsBoth before.common after.common (look_stepped opening facts boxes old before new after steps)
+        → CountsBoth before.common after.common (moments_stepped opening facts boxes old before new after steps)
     stepped boxes old before new after steps =
-        subst (λ (r : RouterFacts). Counts opening before.common.router r (look_stepped opening facts boxes old before new after steps))
-        (sym (ap (λ (c : CommonFacts). c.router) steps.noted))
+        goes_on opening before.common.router steps.routed.router after.common.router
+        (look_stepped opening facts boxes old before new after steps) (Took (takes_by old.machine steps.turned.0) (told_by_passes new.passes) ∷ [])
         (handled opening CountsBoth both_same made old.machine.connection (session_of old.machine.stage) (action_of old.machine steps.turned.0.handled) before.common steps.routed steps.turned.1.routes)
+        (no_look opening steps.routed.router after.common.router (Took (takes_by old.machine steps.turned.0) (told_by_passes new.passes) ∷ []) refl
+        (asks_learnt (told_by_passes new.passes) steps.routed.router after.common.router steps.learns)
+        (learnt (told_by_passes new.passes) steps.routed.router after.common.router steps.learns))
 
     along : (boxes : BoxesFacts) (olds : List (PortFacts L)) (before : Shares) (news : List (PortFacts L)) (after : Shares) (all : Along (PortSteps facts opening boxes) olds before news after)
-        → CountsBoth before.common after.common (looks_along opening facts boxes olds before news after all)
+        → CountsBoth before.common after.common (moments_along opening facts boxes olds before news after all)
     along boxes [] before [] after same = both_same before.common after.common (ap (λ (s : Shares). s.common) same)
     along boxes [] before (new ∷ news) after none = absurd none
     along boxes (old ∷ olds) before [] after none = absurd none
     along boxes (old ∷ olds) before (new ∷ news) after (between, step, rest) =
         goes_on opening before.common.router between.common.router after.common.router
-        (look_stepped opening facts boxes old before new between step) (looks_along opening facts boxes olds between news after rest)
+        (moments_stepped opening facts boxes old before new between step) (moments_along opening facts boxes olds between news after rest)
         (stepped boxes old before new between step) (along boxes olds between news after rest)
 
     heard : (item : Option (Rung L)) (old new : WorkerFacts L) → Hears facts item old new → Counts opening old.common.router new.common.router (told_by item)
@@ -313,7 +276,7 @@ module _ (opening : Opening) where
     turn_counts old new turn turned =
         goes_on opening old.common.router turned.between.common.router new.common.router
         (told_by turned.hears.item)
-        (looks_along opening facts turned.between.boxes turned.between.ports (shares_of turned.between turned.heard) turned.steps.steps.stepped (shares_of new turned.worked) turned.steps.steps.along)
+        (moments_along opening facts turned.between.boxes turned.between.ports (shares_of turned.between turned.heard) turned.steps.steps.stepped (shares_of new turned.worked) turned.steps.steps.along)
         (heard turned.hears.item (record old { bell = turned.hears.bell }) turned.between turned.hears.hears)
         (along turned.between.boxes turned.between.ports (shares_of turned.between turned.heard) turned.steps.steps.stepped (shares_of new turned.worked) turned.steps.steps.along)
 
@@ -336,7 +299,7 @@ module _ (opening : Opening) where
     copies_are_sent opened turns worker unused all =
         ap (λ (n : ℕ). min n LAST)
         (from_none (sum_by offered_by worker.common.router.outs) (sum_by offered_by opened.common.router.outs) (sum_by copies_sent (looks_in (history facts opening opened turns worker all)))
-        (turns_count opened turns worker all).sent (unused_sum offered_by (λ pass is. ap (λ (l : List VoiceParcel). length l) is.0) opened.common.router.outs unused))
+        (turns_count opened turns worker all).sent (unused_sum offered_by (λ pass is. ap (λ (l : List VoiceFacts). length l) is.0) opened.common.router.outs unused))
 
     pub copies_are_refused : (opened : WorkerFacts L) (turns : List Turn) (worker : WorkerFacts L) → All IsUnused opened.common.router.outs → (all : TurnsTo (WorkerTurned facts opening) opened turns worker)
         → min (sum_by full_by worker.common.router.outs) LAST ≡ min (sum_by copies_refused (looks_in (history facts opening opened turns worker all))) LAST

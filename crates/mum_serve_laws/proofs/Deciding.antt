@@ -1,57 +1,9 @@
 -- What turns of an owner append and write down, beside the commands that they decide.
-use Rattle.std.proofs.Common.{◌≡◌, ◌∙◌, ℕ, ◌+◌, Bool, true, false, cond, List, [], ◌∷◌, ◌++◌, append_assoc, append-nil, length, Option, Some, None, refl, ap, sym, subst, inl, inr, arith, length-append}
-use Rattle.std.specs.Prelude.{◌&&◌, ◌||◌, is_none, is_some, MatchBool, MatchOption}
-use Rattle.std.proofs.lemmas.List.Concat.{flat_map-append}
-use Rattle.mum_outbox.specs.Facts.{QueueId}
-use Rattle.mum_base.specs.declared.number.SessionId.{SessionId}
-use Rattle.mum_base.specs.declared.number.Slot.{Slot}
-use Rattle.mum_base.specs.declared.reply.Mark.{Mark}
-use Rattle.mum_base.specs.declared.reply.ReplyEnd.{ReplyEnd}
+use Rattle.mum_serve_laws.proofs.Common.{◌≡◌, ◌∙◌, ℕ, ◌+◌, Bool, true, false, cond, List, [], ◌∷◌, ◌++◌, append_assoc, append-nil, length, Option, Some, None, refl, ap, sym, subst, inl, inr, arith, length-append, ◌&&◌, ◌||◌, is_none, is_some, MatchBool, MatchOption, flat_map-append, QueueId, SessionId, Slot, Mark, ReplyEnd, Commanded, Decides, Publishes, current, next_revision, with_accepted, ControlFacts, slot_of, EmptiesPost, PostsNext, due_notices, Posted, TurnsTo, Turn, DoorFacts, LinkFacts, Accept, Notice, Answers, IsGivenOrRefused, ListComesTo, SettledBy, SettlesList, TestedBy, ban_reply, banned_in, book_after, is_banned, list_reply, with_warden, with_command, GuestsFacts, OwnerFacts, ScribeFacts, IsGiven, replied, roll_of, starved, joined_by, left, owned, session_of, came_by, came_where, connections_given, IsOpened, EmptiesFor, LeaveIsGiven, Next, Receives, ReceivesBy, ReceivesItem, Rests, Serves, ServesDesk, leave_of, must_wait, next, with_pass, Again, Goes, Rest, Take, ArchivesBy, Asks, OwnerTurned, PostsOne, Presses, PublishesLeft, guests_by, is_not_to_ask, is_over, is_through, lag_at, makes_note, pressing, with_lag, entries_by, is_leave, is_login, prepared, recorded, refused, Coming, Lag, decided_roll, DeskItem, Login, all_published, appended, NoteFacts, Opening, PublisherFacts, ReplyFacts, login_of, ControlEntry, Book, sent, WardenFacts, verdict_in, mark, edits_of, verdict, Command, Edit, Verdict, Accepted, Lacks, Refused, Rejected, Ignored, Decision, decided_as, decided_by, decided_command, decided_given, decided_in, decided_item, decided_leave, decided_owned, decided_receiving, decided_settling, decided_tested, decided_waiting, decisions_of, decisions, edits_after, entries_after, entry_of, logins_decided}
+use Rattle.mum_state.specs.declared.verdict.Verdict.TheVariants.{Answer}
 use Rattle.mum_base.specs.declared.reply.ReplyEnd.TheVariants as ends
-use Rattle.mum_control.specs.Commanded.{Commanded, Decides, Publishes, current, next_revision, with_accepted}
-use Rattle.mum_control.specs.Facts.{ControlFacts}
-use Rattle.mum_control.specs.Kept.{slot_of}
-use Rattle.mum_control.specs.Posting.{EmptiesPost, PostsNext}
-use Rattle.mum_control.specs.declared.posted.Posted.{Posted}
-use Rattle.mum_crew.specs.Turns.{TurnsTo}
-use Rattle.mum_crew.specs.declared.role.Turn.{Turn}
-use Rattle.mum_io.specs.Door.{DoorFacts}
-use Rattle.mum_io.specs.Link.{LinkFacts}
-use Rattle.mum_io.specs.declared.door.Accept.{Accept}
 use Rattle.mum_io.specs.declared.door.Accept.TheVariants as accepted
-use Rattle.mum_notify.specs.declared.notice.Notice.{Notice}
-use Rattle.mum_owner.specs.Banning.{Answers, IsGivenOrRefused, ListComesTo, SettledBy, SettlesList, TestedBy, ban_reply, banned_in, book_after, is_banned, list_reply, with_warden}
-use Rattle.mum_owner.specs.Decided.{with_command}
-use Rattle.mum_owner.specs.Facts.{GuestsFacts, OwnerFacts, ScribeFacts}
-use Rattle.mum_owner.specs.Given.{IsGiven, replied, roll_of, starved}
-use Rattle.mum_owner.specs.Guests.{joined_by, left, owned, session_of}
-use Rattle.mum_owner.specs.Laws.{came_by, came_where, connections_given}
-use Rattle.mum_owner.specs.Opened.{IsOpened}
-use Rattle.mum_owner.specs.Serving.{EmptiesFor, LeaveIsGiven, Next, Receives, ReceivesBy, ReceivesItem, Rests, Serves, ServesDesk, leave_of, must_wait, next, with_pass}
-use Rattle.mum_owner.specs.Serving.Next.{Again, Goes, Rest, Take}
-use Rattle.mum_owner.specs.Turned.{ArchivesBy, Asks, OwnerTurned, PostsOne, Presses, Publishes as PublishesLeft, guests_by, is_not_to_ask, is_over, is_through, lag_at, makes_note, pressing, with_lag}
-use Rattle.mum_owner.specs.Written.{entries_by, is_leave, is_login, prepared, recorded, refused}
-use Rattle.mum_owner.specs.declared.kept.Coming.{Coming}
-use Rattle.mum_owner.specs.declared.kept.Lag.{Lag}
-use Rattle.mum_owner.proofs.Rolling.{decided_roll}
-use Rattle.mum_port.specs.declared.item.DeskItem.{DeskItem}
 use Rattle.mum_port.specs.declared.item.DeskItem.TheVariants as items
-use Rattle.mum_published.specs.declared.roll.Login.{Login}
-use Rattle.mum_published.specs.Calls.{all_published, appended}
-use Rattle.mum_published.specs.Facts.{NoteFacts, Opening, PublisherFacts, ReplyFacts}
-use Rattle.mum_published.specs.Rolls.{login_of}
-use Rattle.mum_record.specs.declared.journal.ControlEntry.{ControlEntry}
-use Rattle.mum_bans.specs.Book.{Book}
-use Rattle.mum_warden.specs.Answer.{sent}
-use Rattle.mum_warden.specs.Warden.{WardenFacts, verdict_in}
-use Rattle.mum_session.specs.Reply.{mark}
-use Rattle.mum_session.specs.Verdict.{edits_of, verdict}
-use Rattle.mum_session.specs.declared.command.Command.{Command}
-use Rattle.mum_state.specs.declared.edit.Edit.{Edit}
-use Rattle.mum_state.specs.declared.verdict.Verdict.{Verdict}
-use Rattle.mum_state.specs.declared.verdict.Verdict.TheVariants.{Accepted, Lacks, Refused, Rejected, Answer, Ignored}
-use Rattle.mum_step_laws.specs.OwnerTurns.{Decision, decided_as, decided_by, decided_command, decided_given, decided_in, decided_item, decided_leave, decided_owned, decided_receiving, decided_settling, decided_tested, decided_waiting, decisions_of}
-use Rattle.mum_serve_laws.specs.Decisions.{decisions, edits_after, entries_after, entry_of, logins_decided}
 
 -- ---- lists of decisions
 
@@ -288,7 +240,7 @@ module _ {D L : Type 0} where
       still old new (same_list old.control new.control (ap (λ (o : OwnerFacts D L). o.control) is ∙ control)) (ap (λ (o : OwnerFacts D L). o.scribe) is ∙ scribe)
       (ap (λ (o : OwnerFacts D L). o.guests.given) is ∙ given)
 
-  -- the same behind another owner of the same control owner, scribe and number
+  -- the same after another owner of the same control owner, scribe and number
   from_seen : (old seen new : OwnerFacts D L) (made : List Decision) → seen.control ≡ old.control → seen.scribe ≡ old.scribe → seen.guests.given ≡ old.guests.given → Moves seen new made → Moves old new made
   from_seen old seen new made control scribe given moves = then_moves old seen new [] made (unseen old seen seen control scribe given refl) moves
 
@@ -417,7 +369,7 @@ module _ {D L : Type 0} where
       let mid : OwnerFacts D L = record old { control = one.after } in
       subst (λ (o : OwnerFacts D L). Moves old o []) (sym one.others)
       (then_moves old mid (with_lag (lag_at one.answer old.guests.rows) mid) [] []
-      (still old mid (posted_kept old.control old.control.pending one.answer one.after one.posts) refl refl) (lag_moves (lag_at one.answer old.guests.rows) mid))
+      (still old mid (posted_kept old.control (due_notices old.control) one.answer one.after one.posts) refl refl) (lag_moves (lag_at one.answer old.guests.rows) mid))
 
   -- ---- the end of a turn
 
@@ -457,7 +409,7 @@ module _ {D L : Type 0} (door_facts : D → DoorFacts) (link_facts : L → LinkF
 
   -- ---- the turns
 
-  -- these decisions and so many connections lead from the one to the other
+  -- these decisions and n connections lead from the one to the other
   pub record Turns (old new : OwnerFacts D L) (made : List Decision) (came : ℕ) : Type 0 where
     pub leads : Leads old.control new.control old.scribe new.scribe made
     pub given : new.guests.given ≡ old.guests.given + came

@@ -1,12 +1,5 @@
 -- What holds of a step of a port, where it holds of a packet that was routed and of what stays as it is.
-use Rattle.std.proofs.Common.{◌≡◌, ℕ, List, [], Option, Some}
-use Rattle.mum_base.specs.declared.number.SessionId.{SessionId}
-use Rattle.mum_port.specs.Turn.{RoutesPacket as PortRoutes}
-use Rattle.mum_published.specs.Facts.{Opening}
-use Rattle.mum_session.specs.declared.action.Action.{Action}
-use Rattle.mum_session.specs.declared.action.Action.TheVariants.{Voice}
-use Rattle.mum_worker.specs.Routing.{CommonFacts, RoutesPacket}
-use Rattle.mum_worker_laws.specs.Laws.{Moment, look_asked, look_made}
+use Rattle.mum_serve_laws.proofs.Common.{◌≡◌, ℕ, List, [], Option, Some, SessionId, PortRoutes, Opening, Action, Voice, CommonFacts, RoutesPacket, Moment, look_asked, look_made}
 
 module _ (opening : Opening) (R : CommonFacts → CommonFacts → List Moment → Type 0)
     (same : (old new : CommonFacts) → new ≡ old → R old new [])

@@ -1,30 +1,7 @@
 -- What the keeper has at the end of a run.
-use Rattle.std.proofs.Common.{◌≡◌, ◌∙◌, ℕ, Bool, true, false, List, Option, None, Some, IfSome, ap, sym, subst}
-use Rattle.std.specs.Prelude.{◌||◌}
-use Rattle.mum_outbox.specs.Facts.{QueueId}
-use Rattle.mum_io.specs.Door.{DoorFacts}
-use Rattle.mum_io.specs.Link.{LinkFacts}
-use Rattle.mum_keeper.specs.Keeping.{KeeperFacts}
-use Rattle.mum_keeper.specs.Mirror.{MirrorFacts, opening_of}
-use Rattle.mum_keeper.specs.Store.{Settles, StoreFacts}
-use Rattle.mum_keeper.specs.Turns.{HoldsKept}
-use Rattle.mum_keeper.specs.declared.keeper.KeepEnd.{KeepEnd}
-use Rattle.mum_keeper.specs.declared.keeper.KeepEnd.TheVariants as keeps
-use Rattle.mum_keeper.proofs.Turning.{settled}
-use Rattle.mum_kept.specs.declared.rows.KeptRows.{KeptRows}
-use Rattle.mum_published.specs.Facts.{Opening}
-use Rattle.mum_serve.specs.Asked.{Service}
-use Rattle.mum_serve.specs.Loading.{Loads, state_over}
-use Rattle.mum_serve.specs.Serving.{LoadsAndServes}
-use Rattle.mum_serve.specs.Stores.{CameToStore, HasStored, archive_queue}
-use Rattle.mum_serve.specs.declared.asked.Objects.{Objects}
-use Rattle.mum_serve.specs.declared.entries.Entries.{Entries}
-use Rattle.mum_serve.specs.declared.server.Served.TheVariants.{Whole}
-use Rattle.mum_serve.specs.declared.summary.Summary.{Summary}
-use Rattle.mum_state.specs.State.{StateValue}
-use Rattle.mum_state.specs.declared.edit.Edit.{Edit}
-use Rattle.mum_serve_laws.specs.Runs.{KeepsTheEnd}
+use Rattle.mum_serve_laws.proofs.Common.{◌≡◌, ◌∙◌, ℕ, Bool, true, false, List, Option, None, Some, IfSome, ap, sym, subst, ◌||◌, QueueId, DoorFacts, LinkFacts, KeeperFacts, MirrorFacts, opening_of, Settles, StoreFacts, HoldsKept, KeepEnd, settled, KeptRows, Opening, Service, Loads, state_over, LoadsAndServes, CameToStore, HasStored, archive_queue, Objects, Entries, Whole, Summary, StateValue, Edit, KeepsTheEnd}
 use Rattle.mum_serve_laws.proofs.Running.{end_is}
+use Rattle.mum_keeper.specs.declared.keeper.KeepEnd.TheVariants as keeps
 
 second_no : (one other : Bool) → (one || other) ≡ false → other ≡ false
 second_no true other never = absurd (let both : true ≡ false = never in cc)

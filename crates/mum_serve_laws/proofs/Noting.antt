@@ -1,33 +1,6 @@
 -- What turns of a worker note of parcels for others and of the memory that ran out.
-use Rattle.std.proofs.Common.{◌≡◌, ◌∙◌, ℕ, ◌+◌, min, Bool, true, false, List, [], ◌∷◌, ◌++◌, Option, Some, None, refl, ap, sym, subst, arith}
-use Rattle.std.specs.Prelude.{◌||◌, option_to_list}
-use Rattle.std.specs.List.{list_any}
-use Rattle.std.proofs.lemmas.List.Folds.{list_any-append}
-use mathlib.Core.Logic.{inl, inr}
-use Rattle.mum_base.specs.declared.number.Cause.{Cause}
-use Rattle.mum_base.specs.declared.number.SessionId.{SessionId}
-use Rattle.mum_crew.specs.Along.{Along}
-use Rattle.mum_crew.specs.Turns.{TurnsTo}
-use Rattle.mum_crew.specs.declared.role.Turn.{Turn}
-use Rattle.mum_io.specs.Link.{LinkFacts}
-use Rattle.mum_outbox.specs.declared.rule.TheConstants.{LAST}
-use Rattle.mum_port.specs.Did.{action_of}
-use Rattle.mum_port.specs.Facts.{PortFacts}
-use Rattle.mum_port.specs.declared.port.Step.{Step}
-use Rattle.mum_published.specs.Bell.{Rung, Answer, Comes, Lagging, NoMore}
-use Rattle.mum_published.specs.Facts.{Opening, PassFacts}
+use Rattle.mum_serve_laws.proofs.Common.{◌≡◌, ◌∙◌, ℕ, ◌+◌, min, Bool, true, false, List, [], ◌∷◌, ◌++◌, Option, Some, None, refl, ap, sym, subst, arith, ◌||◌, option_to_list, list_any, list_any-append, inl, inr, Cause, SessionId, Along, TurnsTo, Turn, LinkFacts, LAST, action_of, PortFacts, Step, Rung, Answer, Comes, Lagging, NoMore, Opening, PassFacts, BoxesFacts, WorkerFacts, intake_of, Hears, LagsWhereIts, TakesOrTurns, HasOpened, RecordFacts, after_close, after_step, first_record, is_memory, without_room, CommonFacts, RoutesPacket, PortSteps, Shares, Turned, WorkerTurned, shares_of, Intake, Moment, look_made, causes_along, causes_heard, causes_in, causes_lagged, causes_lagging, causes_turned, strays_along, strays_in, strays_stepped, strays_turned}
 use Rattle.mum_session.specs.Machine.{session_of}
-use Rattle.mum_worker.specs.Boxes.{BoxesFacts}
-use Rattle.mum_worker.specs.Facts.{WorkerFacts, intake_of}
-use Rattle.mum_worker.specs.Hearing.{Hears, LagsWhereIts, TakesOrTurns}
-use Rattle.mum_worker.specs.Opening.{HasOpened}
-use Rattle.mum_worker.specs.Record.{RecordFacts, after_close, after_step, first_record, is_memory, without_room}
-use Rattle.mum_worker.specs.Routing.{CommonFacts, RoutesPacket}
-use Rattle.mum_worker.specs.Stepping.{PortSteps, Shares}
-use Rattle.mum_worker.specs.Turning.{Turned, WorkerTurned, shares_of}
-use Rattle.mum_worker.specs.declared.intake.Intake.{Intake}
-use Rattle.mum_worker_laws.specs.Laws.{Moment, look_made}
-use Rattle.mum_serve_laws.specs.Counted.{causes_along, causes_heard, causes_in, causes_lagged, causes_lagging, causes_turned, strays_along, strays_in, strays_stepped, strays_turned}
 use Rattle.mum_serve_laws.proofs.Handled.{handled}
 
 -- ---- numbers and truths
@@ -54,7 +27,7 @@ capped s n a b top is same = omega (arith, is, same)
 
 -- ---- what is noted
 
--- so many parcels for others were taken, and ports closed for these causes
+-- n parcels for others were taken, and ports closed for these causes
 record Notes (strays : ℕ) (causes : List Cause) (old new : RecordFacts) : Type 0 where
   stale : (count : ℕ) → old.stale ≡ min count LAST → new.stale ≡ min (count + strays) LAST
   memory : new.no_memory ≡ (old.no_memory || list_any is_memory causes)

@@ -1,28 +1,6 @@
 -- For whom an owner decides in a turn.
-use Rattle.std.proofs.Common.{◌≡◌, ◌∙◌, ℕ, Bool, true, false, List, Option, Some, None, refl, ap, sym, subst, inl, inr}
-use Rattle.std.specs.List.{AllByRecursion}
-use Rattle.std.specs.Option.{option_and_then, option_map}
-use Rattle.std.specs.Prelude.{◌&&◌, find, MatchOption}
-use Rattle.mum_base.specs.declared.number.SessionId.{SessionId}
-use Rattle.mum_control.specs.Commanded.{Commanded}
-use Rattle.mum_control.specs.Facts.{ControlFacts}
-use Rattle.mum_crew.specs.declared.role.Turn.{Turn}
-use Rattle.mum_io.specs.Door.{DoorFacts}
-use Rattle.mum_io.specs.Link.{LinkFacts}
-use Rattle.mum_owner.specs.Banning.{IsGivenOrRefused, SettledBy, TestedBy, banned_in, is_banned, with_warden}
-use Rattle.mum_owner.specs.Facts.{OwnerFacts}
-use Rattle.mum_owner.specs.Given.{IsGiven}
-use Rattle.mum_owner.specs.Guests.{is_of, owned, session_of}
-use Rattle.mum_owner.specs.Serving.{LeaveIsGiven, Next, Receives, ReceivesBy, ReceivesItem, Serves, leave_of, must_wait, next, with_pass}
-use Rattle.mum_owner.specs.Serving.Next.{Again, Goes, Rest, Take}
-use Rattle.mum_owner.specs.Turned.{OwnerTurned}
-use Rattle.mum_owner.specs.Written.{is_leave, is_login}
-use Rattle.mum_owner.specs.declared.guests.Guest.{Guest}
-use Rattle.mum_port.specs.declared.item.DeskItem.{DeskItem}
+use Rattle.mum_serve_laws.proofs.Common.{◌≡◌, ◌∙◌, ℕ, Bool, true, false, List, Option, Some, None, refl, ap, sym, subst, inl, inr, AllByRecursion, option_and_then, option_map, ◌&&◌, find, MatchOption, SessionId, Commanded, ControlFacts, Turn, DoorFacts, LinkFacts, IsGivenOrRefused, SettledBy, TestedBy, banned_in, is_banned, with_warden, OwnerFacts, IsGiven, is_of, owned, session_of, LeaveIsGiven, Next, Receives, ReceivesBy, ReceivesItem, Serves, leave_of, must_wait, next, with_pass, Again, Goes, Rest, Take, OwnerTurned, is_leave, is_login, Guest, DeskItem, ReplyFacts, Command, Decision, decided_as, decided_by, decided_given, decided_item, decided_leave, decided_owned, decided_receiving, decided_settling, decided_tested, decided_waiting, decisions_of}
 use Rattle.mum_port.specs.declared.item.DeskItem.TheVariants as items
-use Rattle.mum_published.specs.Facts.{ReplyFacts}
-use Rattle.mum_session.specs.declared.command.Command.{Command}
-use Rattle.mum_step_laws.specs.OwnerTurns.{Decision, decided_as, decided_by, decided_given, decided_item, decided_leave, decided_owned, decided_receiving, decided_settling, decided_tested, decided_waiting, decisions_of}
 
 -- the command is for the session that is kept for its connection
 abbrev pub IsOwn : List Guest → Command → Type 0

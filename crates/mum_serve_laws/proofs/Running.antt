@@ -1,56 +1,6 @@
 -- What a run of a server came to, beside the turns of its roles.
-use Rattle.std.proofs.Common.{◌≡◌, ◌∙◌, ℕ, ◌+◌, ◌-◌, ◌^◌, min, Bool, true, false, List, [], ◌∷◌, ◌++◌, map, length, Option, Some, refl, ap, sym, subst, arith, length-append}
-use Rattle.std.specs.Prelude.{◌||◌, All}
-use Rattle.std.specs.List.{AllZip, Contains, filter_map, flat_map, list_any, sum_by}
-use Rattle.std.proofs.lemmas.List.Elements.{All-append, All-nil, Contains-append_left}
-use Rattle.std.proofs.lemmas.List.Folds.{list_any-append}
-use Rattle.std.proofs.lemmas.List.Sums.{sum_by-append}
-use mathlib.Core.List.{IsPrefix}
-use Rattle.mum_base.specs.declared.number.Cause.{Cause}
-use Rattle.mum_crew.specs.Turns.{TurnsLead, TurnsTo}
-use Rattle.mum_crew.specs.declared.role.Turn.{Turn}
-use Rattle.mum_io.specs.Door.{DoorFacts}
-use Rattle.mum_io.specs.Link.{LinkFacts}
-use Rattle.mum_control.specs.Commanded.{current}
-use Rattle.mum_keeper.specs.Keeping.{KeeperFacts}
-use Rattle.mum_kept.specs.declared.rows.KeptRows.{KeptRows}
-use Rattle.mum_owner.specs.Facts.{OwnerFacts}
-use Rattle.mum_published.proofs.Prefixes.{prefix_trans}
-use Rattle.mum_published.specs.Calls.{appended, state_of}
-use Rattle.mum_published.specs.declared.roll.Login.{Login}
-use Rattle.mum_published.specs.Facts.{Opening, PassFacts, PublisherFacts}
-use Rattle.mum_record.specs.declared.journal.ControlEntry.{ControlEntry}
-use Rattle.mum_record.specs.declared.journal.WorkerEntry.{WorkerEntry}
-use Rattle.mum_router.specs.Offering.{copies_of, full_of}
-use Rattle.mum_router.specs.Picking.{looks_of}
-use Rattle.mum_serve.specs.Asked.{Service}
-use Rattle.mum_serve.specs.Journals.{closing_room, entries_of, per_worker}
-use Rattle.mum_serve.specs.OneList.{AreWithin}
-use Rattle.mum_serve.specs.Opened.{AreOpenedFrom, WorkerBegins, fresh_pass}
-use Rattle.mum_serve.specs.Roles.{with_workers}
-use Rattle.mum_serve.specs.Serving.{HasRun}
-use Rattle.mum_serve.specs.Totals.{nothing, with_worker}
-use Rattle.mum_serve.specs.Views.{viewer_memory}
-use Rattle.mum_serve.specs.declared.asked.Objects.{Objects}
-use Rattle.mum_serve.specs.declared.entries.Entries.{Entries}
-use Rattle.mum_serve.specs.declared.summary.Summary.{Summary}
-use Rattle.mum_serve.specs.declared.totals.Totals.{Totals}
-use Rattle.mum_state.specs.After.{led_to}
-use Rattle.mum_state.specs.State.{StateValue}
-use Rattle.mum_state.specs.declared.edit.Edit.{Edit}
-use Rattle.mum_step_laws.specs.OwnerTurns.{Decision}
-use Rattle.mum_worker.specs.Facts.{WorkerFacts}
-use Rattle.mum_worker.specs.Opening.{HasOpened}
-use Rattle.mum_worker.specs.Record.{is_memory}
-use Rattle.mum_worker.specs.Turning.{WorkerTurned}
-use Rattle.mum_worker_laws.specs.Laws.{Look, history, login_made, looks_in}
-use Rattle.mum_worker_laws.specs.Voices.{Talk, talk_in, talk_made}
-use Rattle.mum_serve_laws.specs.Counted.{GoesToHearers, causes_in, copies_refused, copies_sent, strays_in, up_to_64}
-use Rattle.mum_serve_laws.specs.Decisions.{edits_after, entries_after, logins_decided}
-use Rattle.mum_serve_laws.specs.Runs.{AreOfTheTurns, AreRouted, AreWritten, causes_of_each, decisions_of_run, edits_of_run, looks_of_each, strays_of_each}
-use Rattle.mum_serve_laws.proofs.Counting.{copies_are_refused, copies_are_sent, go_to_hearers, looks_counted}
-use Rattle.mum_serve_laws.proofs.Deciding.{connections_counted, edits_decided, entries_decided, logins_accepted, none_unasked}
-use Rattle.mum_serve_laws.proofs.Noting.{memory_noted, stale_counted}
+use Rattle.mum_serve_laws.proofs.Common.{◌≡◌, ◌∙◌, ℕ, ◌+◌, ◌-◌, ◌^◌, min, Bool, true, false, List, [], ◌∷◌, ◌++◌, map, length, Option, Some, refl, ap, sym, subst, arith, length-append, ◌||◌, All, AllZip, Contains, filter_map, flat_map, list_any, sum_by, All-append, All-nil, Contains-append_left, list_any-append, sum_by-append, IsPrefix, Cause, TurnsLead, TurnsTo, Turn, DoorFacts, LinkFacts, current, KeeperFacts, KeptRows, OwnerFacts, prefix_trans, appended, state_of, Login, Opening, PassFacts, PublisherFacts, ControlEntry, WorkerEntry, copies_of, full_of, looks_of, Service, closing_room, entries_of, per_worker, AreWithin, AreOpenedFrom, WorkerBegins, fresh_pass, with_workers, HasRun, nothing, with_worker, viewer_memory, Objects, Entries, Summary, Totals, led_to, StateValue, Edit, Decision, WorkerFacts, HasOpened, is_memory, WorkerTurned, Look, history, login_made, looks_in, Talk, talk_in, talk_made, GoesToHearers, causes_in, copies_refused, copies_sent, strays_in, up_to_64, edits_after, entries_after, logins_decided, AreOfTheTurns, AreRouted, AreWritten, causes_of_each, decisions_of_run, edits_of_run, looks_of_each, strays_of_each}
+use Rattle.mum_serve_laws.proofs.{Counting.copies_are_refused, Counting.copies_are_sent, Counting.go_to_hearers, Counting.looks_counted, Deciding.connections_counted, Deciding.edits_decided, Deciding.entries_decided, Deciding.logins_accepted, Deciding.none_unasked, Noting.memory_noted, Noting.stale_counted}
 
 -- ---- lists that go on
 
@@ -240,7 +190,7 @@ module _ {D K P L : Type 0} (facts : L → LinkFacts) (door_facts : D → DoorFa
   made = decisions_of_run facts door_facts last calls keeper_facts state asked workers rows opened summary entries left run
 
   -- what the owner appended
-  list_is : appended run.owner.control.publisher ≡ edits_after run.began [] made
+  pub list_is : appended run.owner.control.publisher ≡ edits_after run.began [] made
   list_is =
       let first = run.turned.first_owner in
       edits_decided door_facts facts first run.turned.owner_turned.0 run.owner run.turned.owner_turned.1

@@ -1,35 +1,8 @@
 -- What turns of an owner decide, beside what they settle.
-use Rattle.std.proofs.Common.{◌≡◌, ◌∙◌, ℕ, Bool, true, false, List, [], ◌∷◌, ◌++◌, Option, Some, None, refl, ap, sym, subst, inl, inr}
-use Rattle.std.specs.Option.{option_map}
-use Rattle.std.specs.Prelude.{◌&&◌, find, is_some, MatchOption}
-use Rattle.mum_base.specs.declared.number.SessionId.{SessionId}
-use Rattle.mum_base.specs.declared.reply.Mark.{Mark}
-use Rattle.mum_control.specs.Commanded.{Commanded, current}
-use Rattle.mum_control.specs.Facts.{ControlFacts}
-use Rattle.mum_core.proofs.Subsequences.{skip}
-use Rattle.mum_core.specs.Laws.{IsSubsequenceBy}
-use Rattle.mum_crew.specs.Turns.{TurnsTo}
-use Rattle.mum_crew.specs.declared.role.Turn.{Turn}
-use Rattle.mum_io.specs.Door.{DoorFacts}
-use Rattle.mum_io.specs.Link.{LinkFacts}
-use Rattle.mum_owner.specs.Banning.{IsGivenOrRefused, SettledBy, TestedBy, banned_in, is_banned, with_warden}
-use Rattle.mum_owner.specs.Facts.{OwnerFacts}
-use Rattle.mum_owner.specs.Given.{IsGiven}
-use Rattle.mum_owner.specs.Guests.{is_of, owned, session_of}
-use Rattle.mum_owner.specs.Laws.{one_leave, one_tested, settled, settled_by, settled_given, settled_in, settled_item, settled_owned, settled_waiting}
-use Rattle.mum_owner.specs.Serving.{LeaveIsGiven, Next, Receives, ReceivesBy, ReceivesItem, Serves, leave_of, must_wait, next, with_pass}
-use Rattle.mum_owner.specs.Serving.Next.{Again, Goes, Rest, Take}
-use Rattle.mum_owner.specs.Turned.{OwnerTurned}
-use Rattle.mum_owner.specs.Written.{is_leave, is_login}
-use Rattle.mum_owner.specs.declared.guests.Guest.{Guest}
-use Rattle.mum_port.specs.declared.item.DeskItem.{DeskItem}
-use Rattle.mum_port.specs.declared.item.DeskItem.TheVariants as items
-use Rattle.mum_published.specs.Facts.{ReplyFacts}
-use Rattle.mum_session.specs.Verdict.{verdict}
-use Rattle.mum_session.specs.declared.command.Command.{Command}
-use Rattle.mum_step_laws.specs.OwnerTurns.{Decision, decided_as, decided_by, decided_given, decided_item, decided_leave, decided_owned, decided_receiving, decided_settling, decided_tested, decided_waiting, decisions_of}
-use Rattle.mum_serve_laws.specs.Decisions.{Gave, IsOn, Work, decisions, work_done, work_of}
+use Rattle.mum_serve_laws.proofs.Common.{◌≡◌, ◌∙◌, ℕ, Bool, true, false, List, [], ◌∷◌, ◌++◌, Option, Some, None, refl, ap, sym, subst, inl, inr, option_map, ◌&&◌, find, is_some, MatchOption, SessionId, Mark, Commanded, current, ControlFacts, skip, IsSubsequenceBy, TurnsTo, Turn, DoorFacts, LinkFacts, IsGivenOrRefused, SettledBy, TestedBy, banned_in, is_banned, with_warden, OwnerFacts, IsGiven, is_of, owned, session_of, one_leave, one_tested, settled_by, settled_given, settled_in, settled_item, settled_owned, settled_waiting, LeaveIsGiven, Next, Receives, ReceivesBy, ReceivesItem, Serves, leave_of, must_wait, next, with_pass, Again, Goes, Rest, Take, OwnerTurned, is_leave, is_login, Guest, DeskItem, ReplyFacts, verdict, Command, Decision, decided_as, decided_by, decided_given, decided_item, decided_leave, decided_owned, decided_receiving, decided_settling, decided_tested, decided_waiting, decisions_of, Gave, IsOn, Work, decisions, work_done, work_of}
+use Rattle.mum_owner.specs.Laws.{settled}
 use Rattle.mum_serve_laws.proofs.Deciding.{decided_grows}
+use Rattle.mum_port.specs.declared.item.DeskItem.TheVariants as items
 
 -- ---- lists
 

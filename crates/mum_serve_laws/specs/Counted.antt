@@ -1,27 +1,19 @@
 -- What a worker counts, as its turns have it.
+use mathlib.Core.Logic.{inl, inr}
 use Rattle.std.specs.Prelude.{◌≡◌, ◌+◌, ◌-◌, ◌^◌, ℕ, min, not, List, [], ◌∷◌, ◌++◌, filter, length, map, Option, Some, None, option_to_list}
 use Rattle.std.specs.List.{All, list_any, sum_by}
-use mathlib.Core.Logic.{inl, inr}
-use Rattle.mum_base.specs.declared.number.Cause.{Cause}
-use Rattle.mum_base.specs.declared.number.SessionId.{SessionId}
-use Rattle.mum_crew.specs.Along.{Along}
-use Rattle.mum_crew.specs.Turns.{TurnsTo}
-use Rattle.mum_crew.specs.declared.role.Turn.{Turn}
+use Rattle.mum_base.specs.declared.number.{Cause.Cause, SessionId.SessionId}
 use Rattle.mum_io.specs.Link.{LinkFacts}
-use Rattle.mum_port.specs.Did.{stray_posts, stray_voices}
-use Rattle.mum_port.specs.Facts.{PortFacts}
-use Rattle.mum_published.specs.Bell.{Rung, Answer, Comes, Lagging, NoMore}
-use Rattle.mum_published.specs.Calls.{state_of}
-use Rattle.mum_published.specs.Facts.{Opening, PassFacts}
+use Rattle.mum_crew.specs.{Along.Along, Turns.TurnsTo}
+use Rattle.mum_crew.specs.declared.role.Turn.{Turn}
 use Rattle.mum_route.specs.Hearers.{hearers_at}
-use Rattle.mum_router.specs.Offering.{copies_of, full_of, was_sent}
-use Rattle.mum_router.specs.Picking.{looks_of}
+use Rattle.mum_published.specs.Bell.{Rung, Answer, Comes, Lagging, NoMore}
+use Rattle.mum_published.specs.{Calls.state_of, Facts.Opening, Facts.PassFacts}
 use Rattle.mum_session.specs.Machine.{session_of}
-use Rattle.mum_worker.specs.Boxes.{BoxesFacts}
-use Rattle.mum_worker.specs.Facts.{WorkerFacts}
-use Rattle.mum_worker.specs.Hearing.{Hears, LagsWhereIts}
-use Rattle.mum_worker.specs.Opening.{HasOpened, IsUnused}
-use Rattle.mum_worker.specs.Record.{RecordFacts, is_memory}
+use Rattle.mum_router.specs.{Offering.copies_of, Offering.full_of, Offering.was_sent, Picking.looks_of}
+use Rattle.mum_port.specs.{Did.stray_posts, Did.stray_voices, Facts.PortFacts}
+use Rattle.mum_worker.specs.{Boxes.BoxesFacts, Facts.WorkerFacts, Hearing.Hears, Hearing.LagsWhereIts}
+use Rattle.mum_worker.specs.{Opening.HasOpened, Opening.IsUnused, Record.RecordFacts, Record.is_memory}
 use Rattle.mum_worker.specs.Stepping.{PortSteps, Shares}
 use Rattle.mum_worker.specs.Turning.{Turned, WorkerTurned, shares_of}
 use Rattle.mum_worker_laws.specs.Laws.{Look, history, looks_in}
@@ -51,13 +43,16 @@ GoesToHearers opening look =
 
 module _ {L : Type 0} (facts : L → LinkFacts) (opening : Opening) where
   -- how many parcels the step of a port took from its boxes that were for another session
-  abbrev pub strays_stepped : (boxes : BoxesFacts) (old : PortFacts L) (before : Shares) (new : PortFacts L) (after : Shares)
+  abbrev pub strays_stepped : (boxes : BoxesFacts) (old : PortFacts L) (before : Shares) (new : PortFacts L)
+      (after : Shares)
       → PortSteps facts opening boxes old before new after → ℕ
   strays_stepped boxes old before new after steps =
-      stray_posts (session_of old.machine.stage) steps.turned.0.post + stray_voices (session_of old.machine.stage) steps.turned.0.voice
+      stray_posts (session_of old.machine.stage) steps.turned.0.post
+      + stray_voices (session_of old.machine.stage) steps.turned.0.voice
 
   -- how many the steps of ports took, one port after the other
-  abbrev pub strays_along : (boxes : BoxesFacts) (olds : List (PortFacts L)) (before : Shares) (news : List (PortFacts L)) (after : Shares)
+  abbrev pub strays_along : (boxes : BoxesFacts) (olds : List (PortFacts L)) (before : Shares)
+      (news : List (PortFacts L)) (after : Shares)
       → Along (PortSteps facts opening boxes) olds before news after → ℕ
   strays_along boxes [] before [] after none = 0
   strays_along boxes [] before (new ∷ news) after none = 0
@@ -66,7 +61,8 @@ module _ {L : Type 0} (facts : L → LinkFacts) (opening : Opening) where
       strays_stepped boxes old before new along.0 along.1 + strays_along boxes olds along.0 news after along.2
 
   -- for what ports closed as they made their steps, one port after the other
-  abbrev pub causes_along : (boxes : BoxesFacts) (olds : List (PortFacts L)) (before : Shares) (news : List (PortFacts L)) (after : Shares)
+  abbrev pub causes_along : (boxes : BoxesFacts) (olds : List (PortFacts L)) (before : Shares)
+      (news : List (PortFacts L)) (after : Shares)
       → Along (PortSteps facts opening boxes) olds before news after → List Cause
   causes_along boxes [] before [] after none = []
   causes_along boxes [] before (new ∷ news) after none = []
@@ -75,12 +71,14 @@ module _ {L : Type 0} (facts : L → LinkFacts) (opening : Opening) where
       option_to_list along.1.turned.0.closed ++ causes_along boxes olds along.0 news after along.2
 
   -- for what a port of the session closed as it was heard that this lags
-  abbrev pub causes_lagged : (session : SessionId) (old : PortFacts L) (before : RecordFacts) (new : PortFacts L) (after : RecordFacts)
+  abbrev pub causes_lagged : (session : SessionId) (old : PortFacts L) (before : RecordFacts) (new : PortFacts L)
+      (after : RecordFacts)
       → LagsWhereIts facts session old before new after → List Cause
   causes_lagged session old before new after (inl passes) = []
   causes_lagged session old before new after (inr lags) = option_to_list lags.closed
 
-  abbrev pub causes_lagging : (session : SessionId) (olds : List (PortFacts L)) (before : RecordFacts) (news : List (PortFacts L)) (after : RecordFacts)
+  abbrev pub causes_lagging : (session : SessionId) (olds : List (PortFacts L)) (before : RecordFacts)
+      (news : List (PortFacts L)) (after : RecordFacts)
       → Along (LagsWhereIts facts session) olds before news after → List Cause
   causes_lagging session [] before [] after none = []
   causes_lagging session [] before (new ∷ news) after none = []
@@ -111,12 +109,14 @@ module _ {L : Type 0} (facts : L → LinkFacts) (opening : Opening) where
       turned.steps.steps.stepped (shares_of new turned.worked) turned.steps.steps.along
 
   -- how many parcels for another session the turns took
-  abbrev pub strays_in : (old : WorkerFacts L) (turns : List Turn) (new : WorkerFacts L) → TurnsTo (WorkerTurned facts opening) old turns new → ℕ
+  abbrev pub strays_in : (old : WorkerFacts L) (turns : List Turn) (new : WorkerFacts L)
+      → TurnsTo (WorkerTurned facts opening) old turns new → ℕ
   strays_in old [] new all = 0
   strays_in old (turn ∷ turns) new all = strays_turned old all.0 turn all.1 + strays_in all.0 turns new all.2
 
   -- for what ports closed in the turns, in order
-  abbrev pub causes_in : (old : WorkerFacts L) (turns : List Turn) (new : WorkerFacts L) → TurnsTo (WorkerTurned facts opening) old turns new → List Cause
+  abbrev pub causes_in : (old : WorkerFacts L) (turns : List Turn) (new : WorkerFacts L)
+      → TurnsTo (WorkerTurned facts opening) old turns new → List Cause
   causes_in old [] new all = []
   causes_in old (turn ∷ turns) new all = causes_turned old all.0 turn all.1 ++ causes_in all.0 turns new all.2
 
@@ -126,10 +126,12 @@ module _ {L : Type 0} (facts : L → LinkFacts) where
   -- a worker whose pass had asked nothing counted as many looks as its turns routed packets
   abbrev pub LooksAreCounted : Type 0
   LooksAreCounted =
-      (opening : Opening) (number : ℕ) (pass : PassFacts) (journal : Option ℕ) (opened worker : WorkerFacts L) (turns : List Turn)
+      (opening : Opening) (number : ℕ) (pass : PassFacts) (journal : Option ℕ) (opened worker : WorkerFacts L)
+      (turns : List Turn)
       → HasOpened number pass journal opened → pass.asks ≡ []
       → (all : TurnsTo (WorkerTurned facts opening) opened turns worker)
-      → looks_of worker.common.router.pass ≡ up_to_64 (length (looks_in (history facts opening opened turns worker all)))
+      → looks_of worker.common.router.pass
+      ≡ up_to_64 (length (looks_in (history facts opening opened turns worker all)))
 
   -- each packet that turns routed goes to those who hear it
   abbrev pub LooksGoToThoseWhoHear : Type 0
@@ -143,19 +145,22 @@ module _ {L : Type 0} (facts : L → LinkFacts) where
   CopiesAreSent =
       (opening : Opening) (opened worker : WorkerFacts L) (turns : List Turn) → All IsUnused opened.common.router.outs
       → (all : TurnsTo (WorkerTurned facts opening) opened turns worker)
-      → copies_of worker.common.router.outs ≡ up_to_64 (sum_by copies_sent (looks_in (history facts opening opened turns worker all)))
+      → copies_of worker.common.router.outs
+      ≡ up_to_64 (sum_by copies_sent (looks_in (history facts opening opened turns worker all)))
 
   -- and those that found a full box
   abbrev pub CopiesAreRefused : Type 0
   CopiesAreRefused =
       (opening : Opening) (opened worker : WorkerFacts L) (turns : List Turn) → All IsUnused opened.common.router.outs
       → (all : TurnsTo (WorkerTurned facts opening) opened turns worker)
-      → full_of worker.common.router.outs ≡ up_to_64 (sum_by copies_refused (looks_in (history facts opening opened turns worker all)))
+      → full_of worker.common.router.outs
+      ≡ up_to_64 (sum_by copies_refused (looks_in (history facts opening opened turns worker all)))
 
   -- it counted the parcels for another session that its ports took
   abbrev pub StaleIsOfThePorts : Type 0
   StaleIsOfThePorts =
-      (opening : Opening) (number : ℕ) (pass : PassFacts) (journal : Option ℕ) (opened worker : WorkerFacts L) (turns : List Turn)
+      (opening : Opening) (number : ℕ) (pass : PassFacts) (journal : Option ℕ) (opened worker : WorkerFacts L)
+      (turns : List Turn)
       → HasOpened number pass journal opened
       → (all : TurnsTo (WorkerTurned facts opening) opened turns worker)
       → worker.common.kept.stale ≡ up_to_64 (strays_in facts opening opened turns worker all)
@@ -163,7 +168,8 @@ module _ {L : Type 0} (facts : L → LinkFacts) where
   -- and it noted that memory ran out exactly where a port closed for that
   abbrev pub MemoryIsNoted : Type 0
   MemoryIsNoted =
-      (opening : Opening) (number : ℕ) (pass : PassFacts) (journal : Option ℕ) (opened worker : WorkerFacts L) (turns : List Turn)
+      (opening : Opening) (number : ℕ) (pass : PassFacts) (journal : Option ℕ) (opened worker : WorkerFacts L)
+      (turns : List Turn)
       → HasOpened number pass journal opened
       → (all : TurnsTo (WorkerTurned facts opening) opened turns worker)
       → worker.common.kept.no_memory ≡ list_any is_memory (causes_in facts opening opened turns worker all)

@@ -11,11 +11,13 @@ ghost use Rattle.mum_serve.specs.declared.server.Served.TheVariants.{Whole};
 ghost use Rattle.mum_serve.specs.declared.summary.Summary.{Summary};
 ghost use Rattle.mum_state.specs.State.{StateValue};
 ghost use Rattle.mum_state.specs.declared.edit.Edit.{Edit};
-ghost use Rattle.mum_serve_laws.specs.Runs.{AreOfTheTurns, AreRouted, AreWritten, KeepsTheEnd};
+ghost use Rattle.mum_serve_laws.specs.Runs.{AreOfTheTurns, AreRouted, AreTold, AreWritten, KeepsTheEnd};
 
 use mum_io::{Clock, Door};
 use mum_keeper::Keeper;
-use mum_worker_laws::laws::{looks_are_within, speakers_are_admitted, voice_entries_are_the_looks};
+use mum_worker_laws::laws::{
+    looks_are_within, parcels_are_by_the_rules, speakers_are_admitted, voice_entries_are_the_looks,
+};
 
 /// The totals of a run are sums over its turns: the connections that the door gave, the edits of the commands that were
 /// decided, and of all workers the packets that were routed, their copies, and the parcels for other sessions.
@@ -53,9 +55,22 @@ pub fn packets_go_by_the_decisions<D: Door, K: Clock, P: Keeper>()
     speakers_are_admitted::<D::Conn>();
 }
 
+/// Nobody is sent what the rules would not give: each copy that a port takes is that of a packet which its session hears
+/// after a beginning of the list of accepted edits, and each notice reports an edit of such a beginning. And what was
+/// sent holds from then on: a packet is routed after all edits that came with what its worker's ports took before.
+pub fn parcels_go_by_the_rules<D: Door, K: Clock, P: Keeper>()
+    ensures { (state : StateValue) (asked : Service) (workers : ℕ) (rows : Option KeptRows) (opened : Objects D K P)
+        (summary : Summary) (entries : Entries) (left : Objects D K P) →
+        (run : HasRun D.Conn.facts D.facts K.last K.calls P.facts state asked workers rows opened summary entries left) →
+        AreTold D.Conn.facts D.facts K.last K.calls P.facts state asked workers rows opened summary entries left
+        run }
+{
+    parcels_are_by_the_rules::<D::Conn>();
+}
+
 /// Where channels are kept, and neither a call of the keeper failed nor memory ran out, the keeper has at the end the rows
 /// that are kept of the state after all edits that were accepted, and it was opened at the path that was asked for, as far
-/// as it tells these.
+/// as it reports these.
 pub fn kept_rows_are_of_the_end<D: Door, K: Clock, P: Keeper>()
     ensures { (edits : List Edit) (asked : Service) (workers : ℕ) (objects : Objects D K P) (summary : Summary)
         (entries : Entries) (left : Objects D K P) →

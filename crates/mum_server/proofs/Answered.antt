@@ -1,27 +1,6 @@
 -- What a line of the configuration, and what a line of a step, is answered by.
-use Rattle.std.proofs.Common.{◌≡◌, ℕ, List, [], ◌++◌, Option, Some, None, Result, Ok, Err, Bool, true, false, refl, sym, ap, ◌∙◌}
-use Rattle.std.specs.Option.{option_map}
-use Rattle.mum_document.specs.Fault.{Fault, fault_code}
-use Rattle.mum_config.specs.Refusal.{told_fault}
-use Rattle.mum_record.specs.declared.step.Step.{Step}
+use Rattle.mum_server.proofs.Common.{◌≡◌, ℕ, List, [], ◌++◌, Option, Some, None, Result, Ok, Err, Bool, true, false, refl, sym, ap, ◌∙◌, option_map, Fault, fault_code, told_fault, Step, config_of, version_with, Version, step_of, CoreState, start, text_of, does, lines, after, Edit, StateValue, Phase, Running, Over, TooLong, BadRecording, BadJournal, BadConfig, IllegalStep, AuditWrong, End, Finished, Faulty, ReadFault, WriteFault, OutOfMemory, document_edits, document_fault, limits_edits, opening, Goes, Stops, answer, config_answer, opening_answer, phase_after, step_answer, Begins, Describes, LineAnswers, Names, Opens, is_end}
 use Rattle.mum_record.specs.declared.step.Step.TheVariants as words
-use Rattle.mum_record.specs.Head.{config_of, version_with}
-use Rattle.mum_record.specs.declared.head.Version.{Version}
-use Rattle.mum_record.specs.Reading.{step_of}
-use Rattle.mum_core.specs.Core.{CoreState, start}
-use Rattle.mum_core.specs.Line.{text_of}
-use Rattle.mum_core.specs.Step.{does, lines}
-use Rattle.mum_state.specs.After.{after}
-use Rattle.mum_state.specs.declared.edit.Edit.{Edit}
-use Rattle.mum_state.specs.State.{StateValue}
-use Rattle.mum_server.specs.declared.replay.Phase.{Phase}
-use Rattle.mum_server.specs.declared.replay.Phase.TheVariants.{Running, Over}
-use Rattle.mum_server.specs.declared.end.LineFault.TheVariants.{TooLong, BadRecording, BadJournal, BadConfig, IllegalStep, AuditWrong}
-use Rattle.mum_server.specs.declared.end.End.{End}
-use Rattle.mum_server.specs.declared.end.End.TheVariants.{Finished, Faulty, ReadFault, WriteFault, OutOfMemory}
-use Rattle.mum_opening.specs.Opening.{document_edits, document_fault, limits_edits, opening}
-use Rattle.mum_server.specs.Replay.{Goes, Stops, answer, config_answer, opening_answer, phase_after, step_answer}
-use Rattle.mum_server.specs.Runs.{Begins, Describes, LineAnswers, Names, Opens, is_end}
 
 -- a document without a fault opens at what it describes, once the limits are set
 pub config_opens : (w : ℕ) (limits : Option (ℕ × ℕ)) (document : List ℕ) (edits : List Edit) (version : Version) (state : StateValue) (core : CoreState) → document_fault document ≡ None
@@ -43,7 +22,7 @@ config_stops w limits document fault bad =
 told_same : (one other : ℕ × List ℕ) → Some one ≡ Some other → one ≡ other
 told_same one other same = cc
 
--- and is told by its number
+-- and is reported by its number
 told_stops : (w : ℕ) (limits : Option (ℕ × ℕ)) (document : List ℕ) (found : Option Fault) (code : ℕ) (key : List ℕ) → document_fault document ≡ found
     → option_map told_fault found ≡ Some (code, key) → config_answer w limits (Some document) ≡ Stops (BadConfig code key)
 told_stops w limits document None code key is told = absurd (cc)
@@ -66,7 +45,7 @@ opens_not n w limits document Finished h = absurd h
 opens_not n w limits document ReadFault h = absurd h
 opens_not n w limits document WriteFault h = absurd h
 
--- behind a line that names no document nothing begins
+-- after a line that names no document nothing begins
 pub unnamed_begins_not : (n w : ℕ) (limits : Option (ℕ × ℕ)) (line : List ℕ) (end : End) → Names n (config_of line) (Err end) → Begins n w limits line (Err end)
 unnamed_begins_not n w limits line (Faulty m fault) h = (ap (config_answer w limits) h.0 ∙ ap Stops (sym h.1), h.2)
 unnamed_begins_not n w limits line OutOfMemory h = tt
@@ -74,7 +53,7 @@ unnamed_begins_not n w limits line Finished h = absurd h
 unnamed_begins_not n w limits line ReadFault h = absurd h
 unnamed_begins_not n w limits line WriteFault h = absurd h
 
--- behind one that names a document begins what that opens
+-- after one that names a document begins what that opens
 pub named_begins : (n w : ℕ) (limits : Option (ℕ × ℕ)) (line document : List ℕ) (result : Result CoreState End) → config_of line ≡ Some document → Opens n w limits document result → Begins n w limits line result
 named_begins n w limits line document (Ok core) is h = ap (config_answer w limits) is ∙ h
 named_begins n w limits line document (Err (Faulty m fault)) is h = (ap (config_answer w limits) is ∙ h.0, h.1)

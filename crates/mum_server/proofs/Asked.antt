@@ -1,11 +1,5 @@
 -- The words of a command line that ask for an exercise.
-use Rattle.std.proofs.Common.{◌≡◌, ℕ, ◌^◌, ◌-◌, ◌<◌, ◌≤◌, List, [], ◌∷◌, length, get_or, Some, None, codes, refl, sym, ap, ◌∙◌, arith}
-use Rattle.std.specs.Fmt.{decimal}
-use Rattle.std.specs.Prelude.{map}
-use Rattle.mum_record.proofs.Numbers.{number_within-found, number_within-decimal}
-use Rattle.mum_record.specs.Words.{number_within}
-use Rattle.mum_server.specs.Command.{IsExercise}
-use Rattle.mum_server.specs.declared.command.TheConstants.{ROUNDS_LIMIT}
+use Rattle.mum_server.proofs.Common.{◌≡◌, ℕ, ◌^◌, ◌-◌, ◌<◌, ◌≤◌, List, [], ◌∷◌, length, get_or, Some, None, codes, refl, sym, ap, ◌∙◌, arith, decimal, map, number_within-found, number_within-decimal, number_within, IsExercise, ROUNDS_LIMIT}
 
 pub map_three : {X : Type 0} (f : X → List ℕ) (xs : List X) (x y z : X) → 3 ≤ length xs → length xs < 4 → x ≡ get_or xs 0 x → y ≡ get_or xs 1 y → z ≡ get_or xs 2 z
     → map f xs ≡ f x ∷ f y ∷ f z ∷ []

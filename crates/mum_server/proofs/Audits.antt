@@ -1,15 +1,5 @@
 -- How the audit of an input ends.
-use Rattle.std.proofs.Common.{◌≡◌, ℕ, List, Option, Some, None, Ok, Err, refl, sym, ap, ◌∙◌, subst, arith}
-use Rattle.std.specs.Prelude.{IfSome}
-use Rattle.mum_io.specs.Outside.{AppendsFront}
-use Rattle.mum_io.proofs.OutsideLemmas.{Appends-nil}
-use Rattle.mum_record.specs.declared.journal.Journal.{Journal}
-use Rattle.mum_server.specs.declared.end.End.{End}
-use Rattle.mum_server.specs.declared.end.End.TheVariants.{Finished, Faulty, ReadFault, WriteFault, OutOfMemory}
-use Rattle.mum_server.specs.Audit.{IsFaultOf, answered, audit_of, judged}
-use Rattle.mum_server.specs.JournalText.{ReadsInput, journal_read}
-use Rattle.mum_server.specs.Program.{Ends, ReadsCounted}
-use Rattle.mum_server.specs.Replay.{Outcome, stops_at}
+use Rattle.mum_server.proofs.Common.{◌≡◌, ℕ, List, Option, Some, None, Ok, Err, refl, sym, ap, ◌∙◌, subst, arith, IfSome, AppendsFront, Appends-nil, Journal, End, Finished, Faulty, ReadFault, WriteFault, OutOfMemory, IsFaultOf, answered, audit_of, judged, ReadsInput, journal_read, Ends, ReadsCounted, Outcome, stops_at}
 
 -- nothing is a front of anything
 nothing : (old : Option (List ℕ)) (text : List ℕ) → AppendsFront old old text

@@ -1,22 +1,6 @@
 -- The lines of a journal as they are gathered.
-use Rattle.std.proofs.Common.{◌≡◌, ℕ, ◌+◌, ◌-◌, ◌<◌, ◌⊎◌, Bool, cond, List, [], ◌∷◌, ◌++◌, length, take, drop, Option, Some, None, refl, sym, ap, ◌∙◌, arith, inl, inr, append_assoc, length-append}
-use Rattle.std.specs.Prelude.{IfSome}
-use Rattle.std.specs.List.{slice_split}
-use Rattle.std.proofs.lemmas.Bool.{cases_lt}
-use Rattle.std.proofs.lemmas.List.{append-nil, length-take-le}
-use Rattle.std.proofs.lemmas.List.Concat.{flat_map-append}
-use Rattle.std.proofs.lemmas.List.Splits.{slice_split_first}
-use Rattle.mum_record.proofs.Splits.{slice_split-whole}
-use Rattle.mum_record.proofs.LineFeeds.{split_nowhere}
-use Rattle.mum_record.specs.Journal.{Each, ended_lines}
-use Rattle.mum_record.specs.Lines.{is_line_feed}
-use Rattle.mum_record.specs.declared.split.TheConstants.{LINE_LIMIT}
-use Rattle.mum_lines.specs.Lines.{HasNoLineFeed, IsExhausted, IsOpen, IsTooLong, Parts, ReaderState, Reads, at_start, line_length}
-use Rattle.mum_lines.proofs.LineFeeds.{first-within}
-use Rattle.mum_server.specs.JournalText.{IsGathered, first_long, long_line}
-use Rattle.mum_server.specs.Replay.{is_too_long}
-use Rattle.mum_server.proofs.TooLong.{IsFilled, above_by, all_by, longer_too_long, short_enough, split_filled, too_long}
-use Rattle.mum_server.proofs.Underway.{given_split, read_same}
+use Rattle.mum_server.proofs.Common.{◌≡◌, ℕ, ◌+◌, ◌-◌, ◌<◌, ◌⊎◌, Bool, cond, List, [], ◌∷◌, ◌++◌, length, take, drop, Option, Some, None, refl, sym, ap, ◌∙◌, arith, inl, inr, append_assoc, length-append, IfSome, slice_split, cases_lt, append-nil, length-take-le, flat_map-append, slice_split_first, slice_split-whole, split_nowhere, Each, ended_lines, is_line_feed, LINE_LIMIT, HasNoLineFeed, IsExhausted, IsOpen, IsTooLong, Parts, ReaderState, Reads, at_start, line_length, first-within, IsGathered, first_long, long_line, is_too_long}
+use Rattle.mum_server.proofs.{TooLong.IsFilled, TooLong.above_by, TooLong.all_by, TooLong.longer_too_long, TooLong.short_enough, TooLong.split_filled, TooLong.too_long, Underway.given_split, Underway.read_same}
 
 -- ---- the first line that is too long
 
@@ -57,7 +41,7 @@ pub record Gathering (bytes text : List ℕ) (reader : ReaderState) (rest : List
   pub number : n ≡ length lines + 1
   pub long : long_line bytes ≡ first_long reader.room n (slice_split is_line_feed (reader.kept ++ rest))
 
--- as far as the input tells it
+-- as far as the input reports it
 abbrev pub IsGathering : Option (List ℕ) → List ℕ → ReaderState → Option (List ℕ) → ℕ → Type 0
 IsGathering None text reader left n = Unit {0}
 IsGathering (Some bytes) text reader (Some rest) n = Gathering bytes text reader rest n
@@ -105,7 +89,7 @@ gathers_line (Some bytes) (Some rest) (Some after) text longer line reader last 
           ∙ ap (λ (left : ℕ). first_long left (n + 1) (slice_split is_line_feed (last.kept ++ after))) room;
     }
 
--- the end behind a line feed
+-- the end after a line feed
 pub gathers_end : (first left left_after : Option (List ℕ)) (text : List ℕ) (reader last : ReaderState) (n : ℕ) → IsGathering first text reader left n → Reads reader last left left_after
     → last.kept ≡ [] → IsExhausted left left_after → IfSome first (λ bytes. (None ≡ long_line bytes) × IsGathered None bytes text)
 gathers_end None left left_after text reader last n g reads empty none = tt
@@ -118,7 +102,7 @@ gathers_end (Some bytes) (Some rest) (Some after) text reader last n g reads emp
       sym (g.bytes_are ∙ ap (λ (xs : List ℕ). text ++ xs) all ∙ append-nil text),
     )
 
--- the end behind bytes that no line feed ends
+-- the end after bytes that no line feed ends
 pub gathers_rest : (first left left_after : Option (List ℕ)) (text longer : List ℕ) (reader last : ReaderState) (n : ℕ) → IsGathering first text reader left n → Reads reader last left left_after
     → IsOpen last → longer ≡ text ++ last.kept → IsExhausted left left_after → IfSome first (λ bytes. (None ≡ long_line bytes) × IsGathered None bytes longer)
 gathers_rest None left left_after text longer reader last n g reads opens is none = tt

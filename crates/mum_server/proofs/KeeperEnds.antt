@@ -1,24 +1,7 @@
 -- What became of the keeper of a run that ended for its sake.
-use Rattle.std.proofs.Common.{◌≡◌, ◌∙◌, ℕ, Bool, true, false, List, Option, None, Some, ap, sym, subst, inl, inr}
-use Rattle.mum_crew.specs.Crew.{CrewCounts}
-use Rattle.mum_io.specs.Counts.{Rose}
-use Rattle.mum_io.specs.Door.{DoorFacts}
-use Rattle.mum_io.specs.Link.{LinkFacts}
-use Rattle.mum_keeper.specs.Keeping.{KeeperFacts}
-use Rattle.mum_keeper.specs.Mirror.{opening_of}
-use Rattle.mum_keeper.specs.Store.{StoreFacts}
-use Rattle.mum_keeper.specs.declared.naming.KeeperOpening.{KeeperOpening}
-use Rattle.mum_kept.specs.declared.rows.KeptRows.{KeptRows}
-use Rattle.mum_serve.specs.Asked.{Lent, Service}
-use Rattle.mum_serve.specs.Loading.{FailsToLoad, Loads, LoadsBadRows}
-use Rattle.mum_serve.specs.Program.{EndsAt, EndsWith, HasServed, ServesNobody}
-use Rattle.mum_serve.specs.Stores.{CameToStore}
-use Rattle.mum_serve.specs.declared.program.Input.{Input}
-use Rattle.mum_serve.specs.declared.program.ServerEnd.{ServerEnd}
+use Rattle.mum_server.proofs.Common.{◌≡◌, ◌∙◌, ℕ, Bool, true, false, List, Option, None, Some, ap, sym, subst, inl, inr, CrewCounts, Rose, DoorFacts, LinkFacts, KeeperFacts, opening_of, StoreFacts, KeeperOpening, KeptRows, Lent, Service, FailsToLoad, Loads, LoadsBadRows, EndsAt, EndsWith, HasServed, ServesNobody, CameToStore, Input, ServerEnd, StateValue, GaveBadRows, KeeperFailed}
 use Rattle.mum_serve.specs.declared.program.ServerEnd.TheVariants as ends
 use Rattle.mum_serve.specs.declared.server.Served.TheVariants as served
-use Rattle.mum_state.specs.State.{StateValue}
-use Rattle.mum_server.specs.Serve.{GaveBadRows, KeeperFailed}
 
 module _ {P : Type 0} (keeper_facts : P → KeeperFacts) where
   -- a keeper that gave its rows counted nothing

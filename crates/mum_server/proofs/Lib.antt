@@ -1,3 +1,5 @@
+mod Common
+pub mod Public
 pub mod OneWord
 pub mod Answered
 pub mod Asked

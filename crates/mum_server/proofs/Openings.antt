@@ -1,26 +1,7 @@
 -- The state at which the steps of a recording begin is proper.
-use Rattle.std.proofs.Common.{◌≡◌, ℕ, List, [], ◌∷◌, Option, Some, None, true, leb, refl, ap, arith}
-use Rattle.std.specs.Option.{option_map, option_map_or}
-use Rattle.serde_json.specs.Data.{Data}
-use Rattle.mum_config.proofs.Bare.{empty_bare}
-use Rattle.mum_config.proofs.FitDocument.{text_fits, text_fits_limits}
-use Rattle.mum_config.specs.Limits.{FitAfterLimits}
-use Rattle.mum_config.specs.Document.{config_of, fault_of, value_of}
+use Rattle.mum_server.proofs.Common.{◌≡◌, ℕ, List, [], ◌∷◌, Option, Some, None, true, leb, refl, ap, arith, option_map, option_map_or, Data, empty_bare, text_fits, text_fits_limits, FitAfterLimits, fault_of, value_of, IfSome, Ok, and_from, le-leb, PLACES, SLOTS, AreLimits, applied, fits, SetLimits, fit_from, keeps_proper_lem, all_fit, IsProper, empty_state, Edit, document_edits, document_fault, opening, opening_edits}
+use Rattle.mum_config.specs.Document.{config_of}
 use Rattle.mum_config.specs.declared.config.Config.{Config}
-use Rattle.std.specs.Prelude.{IfSome, Ok}
-use Rattle.std.proofs.lemmas.Bool.{and_from, le-leb}
-use Rattle.mum_base.specs.declared.number.TheConstants.{PLACES, SLOTS}
-use Rattle.mum_record.specs.Head.{AreLimits}
-use Rattle.mum_state.specs.Applied.{applied}
-use Rattle.mum_state.specs.Fits.{fits}
-use Rattle.mum_state.specs.declared.edit.Edit.TheVariants.{SetLimits}
-use Rattle.mum_state.proofs.Fitting.{fit_from}
-use Rattle.mum_state.proofs.Keeping.{keeps_proper_lem}
-use Rattle.mum_state.specs.After.{all_fit}
-use Rattle.mum_state.specs.Proper.{IsProper}
-use Rattle.mum_state.specs.State.{empty_state}
-use Rattle.mum_state.specs.declared.edit.Edit.{Edit}
-use Rattle.mum_opening.specs.Opening.{document_edits, document_fault, opening, opening_edits}
 
 -- the limits that a recording may name are set in the empty server
 limited_fits : (limits : ℕ × ℕ) → AreLimits limits → fits empty_state (SetLimits limits.0 limits.1) ≡ true

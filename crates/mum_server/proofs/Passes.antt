@@ -1,16 +1,6 @@
 -- A journal passes its audit where it is legal, and nowhere else.
-use Rattle.std.proofs.Common.{◌≡◌, ℕ, List, [], Option, Some, None, Ok, refl, sym, ap, ◌∙◌, subst}
-use Rattle.std.specs.Prelude.{◌↔◌}
-use Rattle.mum_document.specs.Fault.{Fault}
-use Rattle.mum_opening.specs.Opening.{document_fault}
-use Rattle.mum_record.specs.declared.journal.Journal.{Journal}
-use Rattle.mum_audit.specs.Audit.{answer, audited, findings, first_line, first_wrong}
-use Rattle.mum_audit.specs.Legal.{IsLegal}
-use Rattle.mum_audit.proofs.Law.{from_legal, legal_from}
-use Rattle.mum_server.specs.Audit.{answered, audit_of, found, judged_with}
-use Rattle.mum_server.specs.JournalText.{journal_read}
-use Rattle.mum_server.specs.Replay.{Outcome}
-use Rattle.mum_server.specs.declared.end.End.TheVariants.{Finished}
+use Rattle.mum_server.proofs.Common.{◌≡◌, ℕ, List, [], Option, Some, None, Ok, refl, sym, ap, ◌∙◌, subst, ◌↔◌, Fault, document_fault, Journal, audited, findings, first_line, first_wrong, IsLegal, from_legal, legal_from, answered, audit_of, found, judged_with, journal_read, Outcome, Finished}
+use Rattle.mum_audit.specs.Audit.{answer}
 
 abbrev TypeOf : {A : Type 0} → A → Type 0
 TypeOf {A} x = A

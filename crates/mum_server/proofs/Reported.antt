@@ -1,23 +1,6 @@
 -- What the program answers, from the command that the words ask for and how its run ended.
-use Rattle.std.proofs.Common.{◌≡◌, ℕ, ◌^◌, ◌-◌, List, Option, Some, None, refl, sym, ap, ◌∙◌, subst, inl, inr, arith}
-use Rattle.std.specs.Fmt.{decimal}
-use Rattle.std.specs.Prelude.{◌⊎◌, IfSome, codes}
-use Rattle.mum_io.specs.Outside.{AppendsFront, Rose}
-use Rattle.mum_io.proofs.OutsideLemmas.{AppendsFront-whole}
-use Rattle.mum_record.proofs.Numbers.{number_within-decimal}
+use Rattle.mum_server.proofs.Common.{◌≡◌, ℕ, ◌^◌, ◌-◌, List, Option, Some, None, refl, sym, ap, ◌∙◌, subst, inl, inr, arith, decimal, ◌⊎◌, IfSome, codes, AppendsFront, Rose, AppendsFront-whole, number_within-decimal, Asks, IsExercise, IsNoCommand, audit_words, replay_words, audit_of, fault_status, memory_line, said, said_of, status_of, Ends, IsCutShort, IsWhole, ReadsCounted, Reports, Tells, WritesCounted, exercise_outcome, outcome_of, Outcome, replayed, Command, Replay, Audit, Exercise, ROUNDS_LIMIT, End, Finished, Faulty, ReadFault, WriteFault, OutOfMemory, LineFault, TooLong, BadRecording, BadJournal, BadConfig, IllegalStep, AuditWrong}
 use Rattle.mum_server.proofs.Asked.{words_asked}
-use Rattle.mum_server.specs.Command.{Asks, IsExercise, IsNoCommand, audit_words, replay_words}
-use Rattle.mum_server.specs.Audit.{audit_of}
-use Rattle.mum_server.specs.End.{fault_status, memory_line, said, said_of, status_of}
-use Rattle.mum_server.specs.Program.{Ends, IsCutShort, IsWhole, ReadsCounted, Reports, Tells, WritesCounted, exercise_outcome, outcome_of}
-use Rattle.mum_server.specs.Replay.{Outcome, replayed}
-use Rattle.mum_server.specs.declared.command.Command.{Command}
-use Rattle.mum_server.specs.declared.command.Command.TheVariants.{Replay, Audit, Exercise}
-use Rattle.mum_server.specs.declared.command.TheConstants.{ROUNDS_LIMIT}
-use Rattle.mum_server.specs.declared.end.End.{End}
-use Rattle.mum_server.specs.declared.end.End.TheVariants.{Finished, Faulty, ReadFault, WriteFault, OutOfMemory}
-use Rattle.mum_server.specs.declared.end.LineFault.{LineFault}
-use Rattle.mum_server.specs.declared.end.LineFault.TheVariants.{TooLong, BadRecording, BadJournal, BadConfig, IllegalStep, AuditWrong}
 
 -- ---- the command
 
@@ -93,7 +76,7 @@ says_so outcome OutOfMemory status old new eold enew E ends (inr h) = absurd h.0
 
 -- ---- both
 
--- a recording whose bytes are told is replayed to an outcome of them
+-- a recording whose bytes are reported is replayed to an outcome of them
 of_replay : (left : Option (List ℕ)) (command : Command) (P Q : Outcome → Type 0) → command ≡ Replay → ((o : Outcome) → P o → Q o) → IfSome (outcome_of command left) P
     → IfSome left (λ bytes. Q (replayed bytes))
 of_replay None Replay P Q is more h = tt
@@ -109,7 +92,7 @@ of_audit (Some bytes) Audit P Q is more h = more (audit_of bytes) h
 of_audit left Replay P Q is more h = absurd cc
 of_audit left (Exercise seed rounds) P Q is more h = absurd cc
 
--- an exercise has its own outcome, whatever the input tells
+-- an exercise has its own outcome, whatever the input reports
 of_exercise : (left : Option (List ℕ)) (command : Command) (seed rounds : ℕ) (P : Outcome → Type 0) → command ≡ Exercise seed rounds → IfSome (outcome_of command left) P
     → P (exercise_outcome seed rounds)
 of_exercise left command seed rounds P is h = subst (λ (asked : Command). IfSome (outcome_of asked left) P) is h

@@ -1,20 +1,7 @@
--- What comes behind the lines before one that is too long makes no difference to the first fault.
-use Rattle.std.proofs.Common.{◌≡◌, ℕ, ◌+◌, ◌≤◌, Bool, true, false, cond, List, [], ◌∷◌, ◌++◌, length, Option, Some, None, Result, Ok, Err, refl, sym, ap, ◌∙◌, arith, append_assoc, append-nil}
-use Rattle.std.specs.List.{slice_split}
-use Rattle.std.proofs.lemmas.Bool.{le-ltb}
-use Rattle.mum_lines.specs.Lines.{HasNoLineFeed}
-use Rattle.mum_record.specs.Journal.{Each, ended_lines}
-use Rattle.mum_record.specs.JournalReading.{goes_on, journal_of, no_draft, reading_from, taken}
-use Rattle.mum_record.specs.Lines.{is_line_feed}
-use Rattle.mum_record.specs.declared.journal.Journal.{Journal}
-use Rattle.std.specs.Prelude.{IfSome}
-use Rattle.mum_server.specs.declared.end.End.{End}
-use Rattle.mum_server.specs.declared.end.End.TheVariants.{Finished, Faulty, ReadFault, WriteFault, OutOfMemory}
-use Rattle.mum_server.specs.declared.end.LineFault.{LineFault}
-use Rattle.mum_server.specs.declared.end.LineFault.TheVariants.{BadJournal, TooLong}
-use Rattle.mum_server.specs.JournalText.{IsFront, IsGathered, ReadsGathered, ReadsInput, journal_read, long_line, read_with}
-use Rattle.mum_server.proofs.TooLong.{IsFilled, split_filled}
-use Rattle.mum_server.proofs.Underway.{line_split}
+-- What comes after the lines before one that is too long makes no difference to the first fault.
+use Rattle.mum_server.proofs.Common.{◌≡◌, ℕ, ◌+◌, ◌≤◌, Bool, true, false, cond, List, [], ◌∷◌, ◌++◌, length, Option, Some, None, Result, Ok, Err, refl, sym, ap, ◌∙◌, arith, append_assoc, append-nil, slice_split, le-ltb, HasNoLineFeed, Each, ended_lines, journal_of, no_draft, reading_from, taken, is_line_feed, Journal, IfSome, End, Finished, Faulty, ReadFault, WriteFault, OutOfMemory, LineFault, BadJournal, TooLong, IsFront, IsGathered, ReadsGathered, ReadsInput, journal_read, long_line, read_with}
+use Rattle.mum_record.specs.JournalReading.{goes_on}
+use Rattle.mum_server.proofs.{TooLong.IsFilled, TooLong.split_filled, Underway.line_split}
 
 abbrev TypeOf : {A : Type 0} → A → Type 0
 TypeOf {A} x = A
@@ -23,7 +10,7 @@ TypeOf {A} x = A
 abbrev Draft : Type 0
 Draft = TypeOf no_draft
 
--- the lines of a text and what is behind them
+-- the lines of a text and what follows them
 ended_split : (lines : List (List ℕ)) (rest : List ℕ) → Each HasNoLineFeed lines → slice_split is_line_feed (ended_lines lines ++ rest) ≡ lines ++ slice_split is_line_feed rest
 ended_split [] rest all = refl
 ended_split (line ∷ lines) rest all =
@@ -75,7 +62,7 @@ filled_behind : (lines parts : List (List ℕ)) → IsFilled parts → IsFilled 
 filled_behind [] parts h = h
 filled_behind (line ∷ lines) parts h = (line, lines ++ parts, refl)
 
--- what is behind the lines before it makes no difference
+-- what is after the lines before it makes no difference
 same_behind : (lines : List (List ℕ)) (draft : Draft) (n : ℕ) (some other : List (List ℕ)) → IsFilled some → IsFilled other
     → read_with (Some (n + length lines)) (reading_from draft n (lines ++ some)) ≡ read_with (Some (n + length lines)) (reading_from draft n (lines ++ other))
 same_behind [] draft n some other f g =

@@ -1,13 +1,5 @@
 -- The words of a command line that ask to serve.
-use Rattle.std.proofs.Common.{◌≡◌, ◌↔◌, ◌∙◌, ℕ, ◌^◌, ◌<◌, ◌≤◌, ◌==◌, List, [], ◌∷◌, ◌++◌, length, get_or, codes, refl, sym, ap, arith, IfSome, IsTrue, Bool, true, false, Option, Some, None, take, drop}
-use Rattle.std.specs.Borrow.{Bor}
-use Rattle.std.proofs.lemmas.Fmt.{decimal_injective}
-use Rattle.std.specs.Prelude.{decimal, map}
-use Rattle.mum_record.proofs.Numbers.{number_within-found, number_within-decimal}
-use Rattle.mum_record.specs.Words.{number_within}
-use Rattle.mum_serve.specs.Asked.{Service, ViewService}
-use Rattle.mum_serve.specs.declared.asked.ViewAsked.{ViewAsked}
-use Rattle.mum_server.specs.Command.{AsksKeep, AsksView, BeginsWithServe, IsDoor, IsPath, IsServe, IsTail, IsView, keep_words, serve_words, tail_words, view_words}
+use Rattle.mum_server.proofs.Common.{◌≡◌, ◌↔◌, ◌∙◌, ℕ, ◌^◌, ◌<◌, ◌≤◌, ◌==◌, List, [], ◌∷◌, ◌++◌, length, get_or, codes, refl, sym, ap, arith, IfSome, IsTrue, Bool, true, false, Option, Some, None, take, drop, Bor, decimal_injective, decimal, map, number_within-found, number_within-decimal, number_within, Service, ViewService, ViewAsked, AsksKeep, AsksView, BeginsWithServe, IsDoor, IsPath, IsServe, IsTail, IsView, keep_words, serve_words, tail_words, view_words}
 
 first_is : (word other : List ℕ) (words others : List (List ℕ)) → word ∷ words ≡ other ∷ others → word ≡ other
 first_is word other words others same = cc

@@ -1,13 +1,6 @@
 -- The status of each end of a run that serves.
-use Rattle.std.proofs.Common.{◌≡◌, ◌∙◌, ◌⊎◌, ℕ, List, Option, inl, inr, sym, refl, arith}
-use Rattle.mum_serve.specs.declared.program.ServerEnd.{ServerEnd}
+use Rattle.mum_server.proofs.Common.{◌≡◌, ◌∙◌, ◌⊎◌, ℕ, List, Option, inl, inr, sym, refl, arith, ServerEnd, status_of, Reports, ServerReports, End, Faulty, Finished, OutOfMemory, ReadFault, WriteFault, BadConfig}
 use Rattle.mum_serve.specs.declared.program.ServerEnd.TheVariants as ends
-use Rattle.mum_server.specs.End.{status_of}
-use Rattle.mum_server.specs.Program.{Reports}
-use Rattle.mum_server.specs.Serve.{ServerReports}
-use Rattle.mum_server.specs.declared.end.End.{End}
-use Rattle.mum_server.specs.declared.end.End.TheVariants.{Faulty, Finished, OutOfMemory, ReadFault, WriteFault}
-use Rattle.mum_server.specs.declared.end.LineFault.TheVariants.{BadConfig}
 
 -- the status that is an end's own
 abbrev own_status : ServerEnd → ℕ

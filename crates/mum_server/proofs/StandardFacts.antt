@@ -1,11 +1,5 @@
 -- Words that ask to serve, worked by hand: what they ask for, and words that ask for nothing.
-use Rattle.std.proofs.Common.{◌≡◌, ℕ, Bool, true, false, List, [], ◌∷◌, Option, Some, None, codes, get_or, ap, sym, refl, arith}
-use Rattle.std.specs.Fmt.{digits}
-use Rattle.std.specs.Prelude.{decimal}
-use Rattle.mum_record.specs.Words.{number_within, words_in}
-use Rattle.mum_serve.specs.Asked.{Service, ViewService}
-use Rattle.mum_server.specs.Command.{IsPath, IsServe, IsView, keep_words, later_roles, serve_words, tail_words, view_words}
-use Rattle.mum_server.specs.declared.command.TheConstants.{VIEWS_LIMIT}
+use Rattle.mum_server.proofs.Common.{◌≡◌, ℕ, Bool, true, false, List, [], ◌∷◌, Option, Some, None, codes, get_or, ap, sym, refl, arith, digits, decimal, number_within, words_in, Service, ViewService, IsPath, IsServe, IsView, keep_words, later_roles, serve_words, tail_words, view_words, VIEWS_LIMIT}
 use Rattle.mum_server.proofs.ServeWords.{IsNoTail, head_is, no_five, no_four, no_more, no_name, no_one, no_three, no_two, not_counted, not_keep}
 
 abbrev serves : List ℕ → ℕ → Bool → Option ViewService → Service

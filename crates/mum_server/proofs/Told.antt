@@ -1,20 +1,13 @@
--- What a step tells, written with its last line feed.
-use Rattle.std.proofs.Common.{◌≡◌, ℕ, Bool, true, false, List, [], ◌∷◌, ◌++◌, None, refl, sym, ap, ◌∙◌, append_assoc}
-use Rattle.std.proofs.lemmas.List.{append-nil}
-use Rattle.mum_record.specs.Words.{line_of_words}
-use Rattle.mum_record.specs.declared.step.Step.{Step}
-use Rattle.mum_record.specs.declared.step.Step.TheVariants as words
-use Rattle.mum_core.specs.Core.{CoreState}
-use Rattle.mum_core.specs.Line.{joined, text_of}
-use Rattle.mum_core.specs.Step.{does, illegal, lines}
+-- What a step reports, written with its last line feed.
+use Rattle.mum_server.proofs.Common.{◌≡◌, ℕ, Bool, true, false, List, [], ◌∷◌, ◌++◌, None, refl, sym, ap, ◌∙◌, append_assoc, append-nil, line_of_words, Step, CoreState, joined, text_of, does, illegal, lines, allowed_answer}
 use Rattle.mum_server.proofs.Answered.{IsDone}
-use Rattle.mum_server.specs.Replay.{allowed_answer}
+use Rattle.mum_record.specs.declared.step.Step.TheVariants as words
 
 has_lines : List (List (List ℕ)) → Bool
 has_lines [] = false
 has_lines (line ∷ more) = true
 
--- each step tells a line at least
+-- each step reports a line at least
 tells_lines : (core : CoreState) (step : Step) → has_lines (lines core step) ≡ true
 unfolding has_lines
 tells_lines core (words.Open c w) = refl
@@ -42,7 +35,7 @@ unfolding has_lines
 ended [] some = cc
 ended (line ∷ more) some = line_ended line more
 
--- a step that is allowed was taken, and what it tells was written
+-- a step that is allowed was taken, and what it reports was written
 pub step_taken : (core new : CoreState) (step : Step) (old told text : List ℕ) → illegal core step ≡ None → new ≡ does core step → told ≡ old ++ joined (lines core step)
     → text ≡ told ++ 10 ∷ [] → IsDone core step old new text
 step_taken core new step old told text allowed done tells ends = (

@@ -1,20 +1,5 @@
 -- A line that is too long stops the run, wherever it ends.
-use Rattle.std.proofs.Common.{◌≡◌, ℕ, ◌+◌, ◌-◌, ◌<◌, ◌≤◌, ◌⊎◌, Bool, true, false, cond, ltb, List, [], ◌∷◌, ◌++◌, length, take, drop, refl, ap, ◌∙◌, arith, inl, inr, length-append}
-use Rattle.std.specs.Prelude.{◌||◌, min}
-use Rattle.std.specs.List.{slice_split, onto_first}
-use Rattle.std.proofs.lemmas.Bool.{cases_lt, le-ltb, lt-ltb}
-use Rattle.std.proofs.lemmas.List.{length-take-le}
-use Rattle.std.proofs.lemmas.List.Splits.{slice_split_first}
-use Rattle.mum_record.proofs.Splits.{slice_split-whole}
-use Rattle.mum_lines.specs.Lines.{IsTooLong, begun, line_length}
-use Rattle.mum_lines.proofs.LineFeeds.{first-longer, first-within}
-use Rattle.mum_server.specs.declared.replay.Phase.{Phase}
-use Rattle.mum_server.specs.declared.replay.Phase.TheVariants.{Head, Workers, Limits, Config, LimitedConfig, Running, Over}
-use Rattle.mum_server.specs.declared.end.LineFault.TheVariants.{TooLong, BadRecording}
-use Rattle.mum_server.specs.declared.end.End.TheVariants.{Faulty}
-use Rattle.mum_record.specs.declared.split.TheConstants.{LINE_LIMIT}
-use Rattle.mum_server.specs.Replay.{Answer, Stops, goes_on, answer, line_answer, is_too_long, end_fault, ending_of, outcome_from, stops_at}
-use Rattle.mum_record.specs.Lines.{is_line_feed}
+use Rattle.mum_server.proofs.Common.{◌≡◌, ℕ, ◌+◌, ◌-◌, ◌<◌, ◌≤◌, ◌⊎◌, Bool, true, false, cond, ltb, List, [], ◌∷◌, ◌++◌, length, take, drop, refl, ap, ◌∙◌, arith, inl, inr, length-append, ◌||◌, min, slice_split, onto_first, cases_lt, le-ltb, lt-ltb, length-take-le, slice_split_first, slice_split-whole, IsTooLong, begun, line_length, first-longer, first-within, Phase, Head, Workers, Limits, Config, LimitedConfig, Running, Over, TooLong, BadRecording, Faulty, LINE_LIMIT, Answer, Stops, goes_on, answer, line_answer, is_too_long, end_fault, ending_of, outcome_from, stops_at, is_line_feed}
 
 abbrev pub IsFilled : List (List ℕ) → Type 0
 IsFilled parts = (first : List ℕ) × (more : List (List ℕ)) × (parts ≡ first ∷ more)
@@ -106,6 +91,6 @@ whole_long phase n left bytes long =
           ap (outcome_from phase n left) (slice_split-whole is_line_feed bytes outside) ∙ ap (λ e. record { text = []; ending = e }) (ends_long phase n left bytes all)
     ]
 
--- the run stops at it, whatever comes behind what is kept of it
+-- the run stops at it, whatever comes after what is kept of it
 pub stops_long : (phase : Phase) (n left : ℕ) (kept more : List ℕ) → IsTooLong left kept → outcome_from phase n left (slice_split is_line_feed (kept ++ more)) ≡ stops_at n TooLong
 stops_long phase n left kept more long = whole_long phase n left (kept ++ more) (longer_too_long left kept more long)

@@ -1,33 +1,12 @@
--- A run over a recording that is underway: what was told, and what is left of it.
-use Rattle.std.proofs.Common.{◌≡◌, ℕ, ◌+◌, ◌-◌, ◌≤◌, Bool, cond, List, [], ◌∷◌, ◌++◌, length, drop, Option, Some, None, Err, refl, sym, ap, ◌∙◌, subst, append_assoc, arith, length-append}
-use Rattle.std.specs.Prelude.{IfSome, position}
-use Rattle.std.specs.List.{position_or_len, slice_split}
-use Rattle.std.proofs.lemmas.List.{append-nil, take_at, drop_at}
-use Rattle.mum_io.specs.Outside.{Appends, AppendsFront}
-use Rattle.mum_io.proofs.OutsideLemmas.{Appends-nil, Appends-trans, AppendsFront-behind, AppendsFront-longer, AppendsFront-whole}
-use Rattle.mum_record.proofs.LineFeeds.{split_at, split_nowhere}
-use Rattle.mum_lines.specs.Lines.{IsExhausted, IsOpen, IsTooLong, Parts, ReaderState, Reads, at_start}
-use Rattle.mum_lines.proofs.LineFeeds.{first-behind, found-none, is-found}
-use Rattle.mum_server.specs.declared.replay.Phase.{Phase}
-use Rattle.mum_server.specs.declared.replay.Phase.TheVariants.{Head, Workers, Limits, Config, LimitedConfig, Running, Over}
-use Rattle.mum_server.specs.declared.end.LineFault.{LineFault}
-use Rattle.mum_server.specs.declared.end.LineFault.TheVariants.{BadRecording, TooLong}
-use Rattle.mum_server.specs.declared.end.End.{End}
-use Rattle.mum_server.specs.declared.end.End.TheVariants.{Finished, Faulty, ReadFault, WriteFault, OutOfMemory}
-use Rattle.mum_record.specs.declared.split.TheConstants.{INPUT_LIMIT, LINE_LIMIT}
-use Rattle.mum_server.specs.declared.replay.Run.{Run}
-use Rattle.mum_server.specs.Program.{Ends}
-use Rattle.mum_server.specs.Runs.{Advances}
+-- A run over a recording that is underway: what was reported, and what is left of it.
+use Rattle.mum_server.proofs.Common.{◌≡◌, ℕ, ◌+◌, ◌-◌, ◌≤◌, Bool, cond, List, [], ◌∷◌, ◌++◌, length, drop, Option, Some, None, Err, refl, sym, ap, ◌∙◌, subst, append_assoc, arith, length-append, IfSome, position, position_or_len, slice_split, append-nil, take_at, drop_at, Appends, AppendsFront, Appends-nil, Appends-trans, AppendsFront-behind, AppendsFront-longer, AppendsFront-whole, split_at, split_nowhere, IsExhausted, IsOpen, IsTooLong, Parts, ReaderState, Reads, at_start, first-behind, found-none, is-found, Phase, Head, Workers, Limits, Config, LimitedConfig, Running, Over, LineFault, BadRecording, TooLong, End, Finished, Faulty, ReadFault, WriteFault, OutOfMemory, INPUT_LIMIT, LINE_LIMIT, Run, Ends, Advances, text_of, Answer, Goes, Stops, Outcome, answer, behind, end_fault, end_of, stops_at, goes_on, line_answer, ending_of, outcome_from, replayed, is_line_feed}
 use Rattle.mum_server.proofs.TooLong.{ending_cut, outcome_cons, short_enough, split_filled, stops_long}
-use Rattle.mum_core.specs.Line.{text_of}
-use Rattle.mum_server.specs.Replay.{Answer, Goes, Stops, Outcome, answer, behind, end_fault, end_of, stops_at, goes_on, line_answer, ending_of, outcome_from, replayed}
-use Rattle.mum_record.specs.Lines.{is_line_feed}
 
 -- the outcome of the bytes that are left
 abbrev pub outcome_of : Phase → ℕ → ℕ → List ℕ → Outcome
 outcome_of phase n left rest = outcome_from phase n left (slice_split is_line_feed rest)
 
--- what was told was written, and what is left completes the outcome
+-- what was reported was written, and what is left completes the outcome
 pub record Underway (old new : Option (List ℕ)) (phase : Phase) (n left : ℕ) (rest bytes : List ℕ) : Type 0 where
   pub told : List ℕ
   pub written : Appends old new told
@@ -82,13 +61,13 @@ breaks old mid new phase n left line rest after bytes next lines u split answer 
     subst (AppendsFront old new) text
     (AppendsFront-behind old mid new u.told (text_of lines ++ o.text) u.written (AppendsFront-longer mid new (text_of lines) o.text front))
 
--- what was told is a front of all
+-- what was reported is a front of all
 pub pauses : (old new : Option (List ℕ)) (phase : Phase) (n left : ℕ) (rest bytes : List ℕ) → Underway old new phase n left rest bytes → AppendsFront old new (replayed bytes).text
 pauses old new phase n left rest bytes u =
     subst (AppendsFront old new) (ap (λ (x : Outcome). x.text) u.same)
     (AppendsFront-longer old new u.told (outcome_of phase n left rest).text (AppendsFront-whole old new u.told u.written))
 
--- the run is over with this ending, and nothing more is told
+-- the run is over with this ending, and nothing more is reported
 pub record IsDone (old new : Option (List ℕ)) (ending : End) (bytes : List ℕ) : Type 0 where
   pub ending_is : ending ≡ (replayed bytes).ending
   pub whole : Appends old new (replayed bytes).text
@@ -111,7 +90,7 @@ pub ends : (old new : Option (List ℕ)) (phase : Phase) (n left : ℕ) (rest by
     → slice_split is_line_feed rest ≡ rest ∷ [] → IsDone old new (ending_of phase n left rest) bytes
 ends old new phase n left rest bytes u split = over old new phase n left rest bytes (ending_of phase n left rest) u (outcome_ends phase n left rest split)
 
--- ---- the input that is left, as far as it is told
+-- ---- the input that is left, as far as it is reported
 
 -- what is kept and what is left complete the outcome
 abbrev pub IsUnderway : Option (List ℕ) → Option (List ℕ) → Phase → ℕ → ReaderState → Option (List ℕ) → Option (List ℕ) → Type 0
@@ -123,7 +102,7 @@ pub begins : (known left : Option (List ℕ)) (reader : ReaderState) (phase : Ph
 begins known None reader phase n start head one = tt
 begins known (Some bytes) reader phase n start head one = rw (start, head, one) (starts known bytes)
 
--- a line and what is behind its line feed
+-- a line and what is after its line feed
 pub line_split : (line rest : List ℕ) → position is_line_feed line ≡ None → slice_split is_line_feed (line ++ 10 ∷ rest) ≡ line ∷ slice_split is_line_feed rest
 line_split line rest none =
     let bytes = line ++ 10 ∷ rest in
@@ -153,7 +132,7 @@ given_answer : (old new : ReaderState) (line : List ℕ) (left after : Option (L
 given_answer old new line left after phase parts =
     ap (λ (b : Bool). cond b (Stops TooLong) (answer phase line)) (short_enough old.room (length line) (length line + 1) parts.short (omega (arith, parts.room)))
 
--- a line was given, and what it told was written
+-- a line was given, and what it reported was written
 pub goes_given : (old mid new left after first : Option (List ℕ)) (phase next : Phase) (n : ℕ) (reader last : ReaderState) (line : List ℕ) (told : List (List (List ℕ)))
     → IsUnderway old mid phase n reader left first → Parts line reader last left after → answer phase line ≡ Goes next told → Appends mid new (text_of told)
     → IsUnderway old new next (n + 1) last after first
@@ -165,7 +144,7 @@ goes_given old mid new (Some rest) (Some after) (Some bytes) phase next n reader
     (goes old mid new phase n reader.room line (reader.kept ++ rest) (last.kept ++ after) bytes next told u (given_split reader last line rest after parts)
     (given_answer reader last line (Some rest) (Some after) phase parts ∙ answers) more)
 
--- a front of what it told was
+-- a front of what it reported was
 pub breaks_given : (old mid new left after first : Option (List ℕ)) (phase next : Phase) (n : ℕ) (reader last : ReaderState) (line : List ℕ) (told : List (List (List ℕ)))
     → IsUnderway old mid phase n reader left first → Parts line reader last left after → answer phase line ≡ Goes next told → AppendsFront mid new (text_of told)
     → IfSome first (λ bytes. AppendsFront old new (replayed bytes).text)
@@ -176,7 +155,7 @@ breaks_given old mid new (Some rest) (Some after) (Some bytes) phase next n read
     breaks old mid new phase n reader.room line (reader.kept ++ rest) (last.kept ++ after) bytes next told u (given_split reader last line rest after parts)
     (given_answer reader last line (Some rest) (Some after) phase parts ∙ answers) front
 
--- what was told is a front of all
+-- what was reported is a front of all
 pub pauses_given : (old new left first : Option (List ℕ)) (phase : Phase) (n : ℕ) (reader : ReaderState) → IsUnderway old new phase n reader left first
     → IfSome first (λ bytes. AppendsFront old new (replayed bytes).text)
 pauses_given old new left None phase n reader u = tt
@@ -225,7 +204,7 @@ stops_too_long old mid (Some rest) (Some after) (Some bytes) phase n reader last
     ∙ ap (λ (room : ℕ). outcome_of phase n room (last.kept ++ after)) (sym reads.room)
     ∙ stops_long phase n last.room last.kept after long))
 
--- the end of an input behind bytes that no line feed ends
+-- the end of an input after bytes that no line feed ends
 rest_ending : (phase : Phase) (n left : ℕ) (rest : List ℕ) → (rest ≡ [] → ⊥) → length rest ≤ LINE_LIMIT → length rest ≤ left → ending_of phase n left rest ≡ Faulty n BadRecording
 rest_ending phase n left [] filled short within = absurd (filled refl)
 rest_ending phase n left (x ∷ xs) filled short within =
@@ -243,7 +222,7 @@ stops_unended old mid (Some rest) (Some after) (Some bytes) phase n reader last 
     (over old mid phase n reader.room (reader.kept ++ rest) bytes (ending_of phase n reader.room last.kept) u
     (ap (λ (xs : List ℕ). outcome_of phase n reader.room xs) all ∙ outcome_ends phase n reader.room last.kept (split_nowhere is_line_feed last.kept opens.unended)))
 
--- the end of an input behind a line feed
+-- the end of an input after a line feed
 missing : (n left : ℕ) → Faulty n (end_fault left []) ≡ Faulty n BadRecording
 missing n left = ap (λ (b : Bool). Faulty n (cond b TooLong BadRecording)) (short_enough left 0 0 (omega arith) (omega arith))
 

@@ -1,21 +1,16 @@
 -- What the program makes of a journal: the line of its counts, or the first fault.
 use Rattle.std.specs.Prelude.{◌≡◌, ℕ, ◌-◌, List, [], ◌∷◌, ◌++◌, Option, Some, None, Result, Ok, Err, ⊤, codes, decimal}
 use Rattle.std.specs.Option.{option_map}
-use Rattle.mum_config.specs.Refusal.{told_fault}
-use Rattle.mum_document.specs.Fault.{Fault, fault_code}
-use Rattle.mum_opening.specs.Opening.{document_fault}
-use Rattle.mum_record.specs.Head.{first_step_line, version_with}
-use Rattle.mum_record.specs.Words.{line_of_words}
+use Rattle.mum_record.specs.{Head.first_step_line, Head.version_with, Words.line_of_words}
 use Rattle.mum_record.specs.declared.journal.Journal.{Journal}
+use Rattle.mum_document.specs.Fault.{Fault, fault_code}
+use Rattle.mum_config.specs.Refusal.{told_fault}
+use Rattle.mum_opening.specs.Opening.{document_fault}
 use Rattle.mum_audit.specs.Audit.{audited}
-use Rattle.mum_audit.specs.declared.audited.Audited.{Audited}
-use Rattle.mum_audit.specs.declared.audited.Audited.TheVariants.{Legal, Wrong}
-use Rattle.mum_server.specs.declared.end.End.{End}
-use Rattle.mum_server.specs.declared.end.End.TheVariants.{Finished, Faulty, OutOfMemory}
-use Rattle.mum_server.specs.declared.end.LineFault.{LineFault}
-use Rattle.mum_server.specs.declared.end.LineFault.TheVariants.{BadConfig, AuditWrong}
-use Rattle.mum_server.specs.JournalText.{journal_read}
-use Rattle.mum_server.specs.Replay.{Outcome, stops_at}
+use Rattle.mum_audit.specs.declared.audited.Audited.{Audited, TheVariants.Legal, TheVariants.Wrong}
+use Rattle.mum_server.specs.declared.end.End.{End, TheVariants.Finished, TheVariants.Faulty, TheVariants.OutOfMemory}
+use Rattle.mum_server.specs.declared.end.LineFault.{LineFault, TheVariants.BadConfig, TheVariants.AuditWrong}
+use Rattle.mum_server.specs.{JournalText.journal_read, Replay.Outcome, Replay.stops_at}
 
 -- ---- a journal that was read
 
@@ -26,7 +21,8 @@ counts_words controls voices copies full =
 
 -- what an audit found
 abbrev pub found : Audited → Outcome
-found (Legal controls voices copies full) = record { text = line_of_words (counts_words controls voices copies full) ++ 10 ∷ []; ending = Finished }
+found (Legal controls voices copies full) =
+    record { text = line_of_words (counts_words controls voices copies full) ++ 10 ∷ []; ending = Finished }
 found (Wrong line given defined) = stops_at line (AuditWrong given defined)
 
 -- the line of the configuration is the last of the head

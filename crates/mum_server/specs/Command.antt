@@ -1,12 +1,9 @@
 -- What the words of the command line ask for.
-use Rattle.std.specs.Borrow.{Bor}
-use Rattle.std.specs.Option.{option_copied, option_map, option_map_or}
+use Rattle.std.specs.{Borrow.Bor, Option.option_copied, Option.option_map, Option.option_map_or}
 use Rattle.std.specs.Prelude.{◌≡◌, ℕ, ◌+◌, ◌^◌, ◌<◌, ◌≤◌, Bool, true, false, List, [], ◌∷◌, ◌++◌, IfSome, Option, Some, None, codes, decimal}
 use Rattle.mum_serve.specs.Asked.{Service, ViewService, service, view_service}
-use Rattle.mum_serve.specs.declared.asked.Asked.{Asked}
-use Rattle.mum_serve.specs.declared.asked.ViewAsked.{ViewAsked}
-use Rattle.mum_server.specs.declared.command.Command.{Command}
-use Rattle.mum_server.specs.declared.command.Tail.{Tail}
+use Rattle.mum_serve.specs.declared.asked.{Asked.Asked, ViewAsked.ViewAsked}
+use Rattle.mum_server.specs.declared.command.{Command.Command, Tail.Tail}
 use Rattle.mum_server.specs.declared.command.Command.TheVariants.{Replay, Audit, Exercise}
 use Rattle.mum_server.specs.declared.command.TheConstants.{CONNECTIONS_LIMIT, ROUNDS_LIMIT, VIEWS_LIMIT}
 
@@ -20,7 +17,7 @@ audit_words = codes "audit" ∷ []
 abbrev pub exercise_words : ℕ → ℕ → List (List ℕ)
 exercise_words seed rounds = codes "exercise" ∷ decimal seed ∷ decimal rounds ∷ []
 
--- the words ask for an exercise of this seed and so many rounds
+-- the words ask for an exercise of this seed and n rounds
 pub record IsExercise (words : List (List ℕ)) (seed rounds : ℕ) : Type 0 where
   pub words_are : words ≡ exercise_words seed rounds
   pub seed_fits : seed < 2 ^ 64
@@ -107,7 +104,8 @@ pub record IsDoor (name : List ℕ) (limit : ℕ) (word address number : List �
 
 -- the address and the number of a door under this name; or three words are no such door
 abbrev pub AsksDoor : List ℕ → ℕ → List ℕ → List ℕ → List ℕ → Option (Bor (List ℕ) × ℕ) → Type 0
-AsksDoor name limit word address number (Some door) = (door.0.now ≡ address) × IsDoor name limit word address number door.1
+AsksDoor name limit word address number (Some door) =
+    (door.0.now ≡ address) × IsDoor name limit word address number door.1
 AsksDoor name limit word address number None = (count : ℕ) → IsDoor name limit word address number count → ⊥
 
 -- the door for views that words ask for; or they ask for none
@@ -121,7 +119,8 @@ AsksKeep words (Some path) = (words ≡ keep_words (Some path.now)) × IsPath pa
 AsksKeep words None = (path : List ℕ) → words ≡ keep_words (Some path) → IsPath path → ⊥
 
 -- words that follow the number of connections ask for this
-pub record IsTail (words : List (List ℕ)) (journal : Bool) (view : Option ViewService) (keep : Option (List ℕ)) : Type 0 where
+pub record IsTail (words : List (List ℕ)) (journal : Bool) (view : Option ViewService)
+    (keep : Option (List ℕ)) : Type 0 where
   pub words_are : words ≡ tail_words journal view keep
   pub views : IfSome view IsView
   pub path : IfSome keep IsPath
@@ -130,4 +129,5 @@ pub record IsTail (words : List (List ℕ)) (journal : Bool) (view : Option View
 -- what they ask for; or they are no such words
 abbrev pub AsksTail : List (List ℕ) → Option Tail → Type 0
 AsksTail words (Some tail) = IsTail words tail.journal (option_map view_service tail.view) (option_copied tail.keep)
-AsksTail words None = (journal : Bool) (view : Option ViewService) (keep : Option (List ℕ)) → IsTail words journal view keep → ⊥
+AsksTail words None =
+    (journal : Bool) (view : Option ViewService) (keep : Option (List ℕ)) → IsTail words journal view keep → ⊥

@@ -1,9 +1,8 @@
 -- The status and the line of each way in which the program ends.
 use Rattle.std.specs.Prelude.{ℕ, ◌==◌, List, [], ◌∷◌, ◌++◌, codes, decimal, if◌then◌else◌}
 use Rattle.mum_record.specs.Words.{line_of_words}
-use Rattle.mum_server.specs.declared.end.End.{End}
+use Rattle.mum_server.specs.declared.end.{End.End, LineFault.LineFault}
 use Rattle.mum_server.specs.declared.end.End.TheVariants.{Finished, Faulty, ReadFault, WriteFault, OutOfMemory}
-use Rattle.mum_server.specs.declared.end.LineFault.{LineFault}
 use Rattle.mum_server.specs.declared.end.LineFault.TheVariants.{TooLong, BadRecording, BadJournal, BadConfig, IllegalStep, AuditWrong}
 
 abbrev pub fault_status : LineFault → ℕ
@@ -33,7 +32,7 @@ fault_name (BadConfig code key) = codes "BadConfig"
 fault_name (IllegalStep given against) = codes "IllegalStep"
 fault_name (AuditWrong given defined) = codes "AuditWrong"
 
--- what a fault of line n tells beside its name: where it is, and what it is about. A configuration has one line, so
+-- what a fault of line n reports beside its name: where it is, and what it is about. A configuration has one line, so
 -- its fault names the key and no line
 abbrev pub details : ℕ → LineFault → List (List ℕ)
 details n (BadConfig code key) = decimal code ∷ key ∷ []

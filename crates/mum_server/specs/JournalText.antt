@@ -1,24 +1,23 @@
 -- What the program reads of a journal: the journal, or the first line that is too long or not in the grammar.
 use Rattle.std.specs.Prelude.{◌≡◌, ℕ, ◌+◌, ◌-◌, List, [], ◌∷◌, ◌++◌, length, nat_lt, Option, Some, None, IfSome, Result, Ok, Err, if◌then◌else◌}
 use Rattle.std.specs.List.{slice_split}
+use Rattle.mum_record.specs.{Journal.Each, Journal.ended_lines, JournalReading.journal_of, Lines.is_line_feed}
+use Rattle.mum_record.specs.declared.{journal.Journal.Journal, split.TheConstants.INPUT_LIMIT}
 use Rattle.mum_lines.specs.Lines.{HasNoLineFeed}
-use Rattle.mum_record.specs.Journal.{Each, ended_lines}
-use Rattle.mum_record.specs.JournalReading.{journal_of}
-use Rattle.mum_record.specs.Lines.{is_line_feed}
-use Rattle.mum_record.specs.declared.journal.Journal.{Journal}
-use Rattle.mum_record.specs.declared.split.TheConstants.{INPUT_LIMIT}
-use Rattle.mum_server.specs.declared.{end.End.End, end.End.TheVariants.Faulty, end.End.TheVariants.OutOfMemory, end.End.TheVariants.ReadFault, end.LineFault.LineFault, end.LineFault.TheVariants.TooLong, end.LineFault.TheVariants.BadJournal}
+use Rattle.mum_server.specs.declared.end.End.{End, TheVariants.Faulty, TheVariants.OutOfMemory, TheVariants.ReadFault}
+use Rattle.mum_server.specs.declared.end.LineFault.{LineFault, TheVariants.TooLong, TheVariants.BadJournal}
 use Rattle.mum_server.specs.Replay.{is_too_long}
 
 -- ---- the lengths
 
--- the first line from line n on that is too long, where so many bytes may still come. The last piece is what no line
+-- the first line from line n on that is too long, where m bytes may still come. The last piece is what no line
 -- feed ends
 unfoldable pub first_long : ℕ → ℕ → List (List ℕ) → Option ℕ
 first_long left n [] = None
 first_long left n (rest ∷ []) = if is_too_long left (length rest) (length rest) then Some n else None
 first_long left n (line ∷ next ∷ more) =
-    if is_too_long left (length line) (length line + 1) then Some n else first_long (left - (length line + 1)) (n + 1) (next ∷ more)
+    if is_too_long left (length line) (length line + 1) then Some n else first_long (left - (length line + 1)) (n + 1)
+    (next ∷ more)
 
 -- the first line of a text that is too long
 abbrev pub long_line : List ℕ → Option ℕ

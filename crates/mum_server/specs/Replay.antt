@@ -1,26 +1,23 @@
 -- What the program makes of a recording: its transcript, and how the run ends.
 use Rattle.std.specs.Prelude.{ℕ, ◌+◌, ◌-◌, ◌||◌, Bool, List, [], ◌∷◌, ◌++◌, length, Option, Some, None, nat_lt, if◌then◌else◌}
 use Rattle.std.specs.List.{slice_split}
-use Rattle.mum_record.specs.declared.step.Step.{Step}
-use Rattle.mum_record.specs.declared.step.Step.TheVariants as steps
-use Rattle.mum_record.specs.Head.{recording_version, version_with, workers_of, limits_of, config_of}
-use Rattle.mum_record.specs.declared.head.Version.{Version}
+use Rattle.mum_record.specs.declared.{step.Step.Step, head.Version.Version}
 use Rattle.mum_record.specs.declared.head.Version.TheVariants.{One, Two}
-use Rattle.mum_record.specs.Reading.{step_of}
-use Rattle.mum_record.specs.Lines.{is_line_feed}
 use Rattle.mum_record.specs.declared.split.TheConstants.{LINE_LIMIT, INPUT_LIMIT}
+use Rattle.mum_record.specs.Head.{recording_version, version_with, workers_of, limits_of, config_of}
+use Rattle.mum_record.specs.{Reading.step_of, Lines.is_line_feed}
 use Rattle.mum_document.specs.Fault.{Fault, fault_code}
-use Rattle.mum_server.specs.declared.{end.End.End, end.End.TheVariants.Finished, end.End.TheVariants.Faulty, end.LineFault.LineFault, replay.Phase.Phase}
+use Rattle.mum_opening.specs.Opening.{document_fault, opening}
+use Rattle.mum_core.specs.{Core.CoreState, Core.start, Line.text_of, Step.does, Step.illegal, Step.lines}
+use Rattle.mum_server.specs.declared.end.End.{End, TheVariants.Finished, TheVariants.Faulty}
+use Rattle.mum_server.specs.declared.{end.LineFault.LineFault, replay.Phase.Phase}
 use Rattle.mum_server.specs.declared.end.LineFault.TheVariants.{TooLong, BadRecording, BadConfig, IllegalStep}
 use Rattle.mum_server.specs.declared.replay.Phase.TheVariants.{Head, Workers, Limits, Config, LimitedConfig, Running, Over}
-use Rattle.mum_core.specs.Core.{CoreState, start}
-use Rattle.mum_core.specs.Line.{text_of}
-use Rattle.mum_core.specs.Step.{does, illegal, lines}
-use Rattle.mum_opening.specs.Opening.{document_fault, opening}
+use Rattle.mum_record.specs.declared.step.Step.TheVariants as steps
 
 -- ---- one line
 
--- what a line does: the run goes on in a phase, with these lines told, or it stops at a fault
+-- what a line does: the run goes on in a phase, with these lines reported, or it stops at a fault
 pub data Answer : Type 0 where
   Goes : (phase : Phase) (told : List (List (List ℕ))) → Answer
   Stops : (fault : LineFault) → Answer
@@ -41,7 +38,7 @@ abbrev pub version_answer : Option Version → Answer
 version_answer None = Stops BadRecording
 version_answer (Some version) = Goes (Workers version) []
 
--- the limits stand behind the workers in version 2 alone
+-- the limits come after the workers in version 2 alone
 abbrev pub phase_behind_workers : Version → ℕ → Phase
 phase_behind_workers One workers = Config workers
 phase_behind_workers Two workers = Limits workers
@@ -91,9 +88,10 @@ behind text outcome = record { text = text ++ outcome.text; ending = outcome.end
 abbrev pub is_too_long : ℕ → ℕ → ℕ → Bool
 is_too_long left line all = nat_lt LINE_LIMIT line || nat_lt left all
 
--- what the next line does to a run in this phase, where so many bytes may still come
+-- what the next line does to a run in this phase, where n bytes may still come
 abbrev pub line_answer : Phase → ℕ → List ℕ → Answer
-line_answer phase left line = if is_too_long left (length line) (length line + 1) then Stops TooLong else answer phase line
+line_answer phase left line =
+    if is_too_long left (length line) (length line + 1) then Stops TooLong else answer phase line
 
 abbrev pub goes_on : ℕ → Answer → (Phase → Outcome) → Outcome
 goes_on n (Goes phase told) rest = behind (text_of told) (rest phase)
@@ -108,18 +106,19 @@ abbrev pub ending_of : Phase → ℕ → ℕ → List ℕ → End
 ending_of Over n left [] = Finished
 ending_of phase n left rest = Faulty n (end_fault left rest)
 
--- at the end of the input behind a line feed: the recording is over, or line n is missing
+-- at the end of the input after a line feed: the recording is over, or line n is missing
 abbrev pub end_of : Phase → ℕ → End
 end_of Over n = Finished
 end_of phase n = Faulty n BadRecording
 
--- the run from line n on, in a phase, where so many bytes may still come: the lines in order up to
+-- the run from line n on, in a phase, where m bytes may still come: the lines in order up to
 -- the first that is faulty. The last piece is what no line feed ends
 unfoldable pub outcome_from : Phase → ℕ → ℕ → List (List ℕ) → Outcome
 outcome_from phase n left [] = stops_at n BadRecording
 outcome_from phase n left (rest ∷ []) = record { text = []; ending = ending_of phase n left rest }
 outcome_from phase n left (line ∷ next ∷ more) =
-    goes_on n (line_answer phase left line) (λ after. outcome_from after (n + 1) (left - (length line + 1)) (next ∷ more))
+    goes_on n (line_answer phase left line)
+    (λ after. outcome_from after (n + 1) (left - (length line + 1)) (next ∷ more))
 
 -- what the program makes of these bytes
 unfoldable pub replayed : List ℕ → Outcome

@@ -124,7 +124,7 @@ fn write_line<O: Sink>(output: &mut O, line: &str) -> End
     }
 }
 
-/// Reads a journal, and writes the counts of its audit.
+// Reads a journal, and writes the counts of its audit.
 pub(crate) fn audit_input<I: Source, O: Sink>(alloc: Global, input: &mut I, output: &mut O) -> End
     ensures ends { IfSome (I.left input.old) (λ bytes. Ends (audit_of bytes) result (O.written output.old)
         (O.written output.new)) }

@@ -24,7 +24,7 @@ pub enum Command {
     Replay,
     /// Audit the journal that the input is, and write a line of its counts.
     Audit,
-    /// Run the exercise of a seed, of so many rounds, and write a line of what came of it.
+    /// Run the exercise of a seed, of n rounds, and write a line of what came of it.
     Exercise { seed: u64, rounds: u32 },
 }
 
@@ -52,7 +52,7 @@ fn is_audit(words: &[String]) -> bool
     }
 }
 
-/// The seed and the number of rounds of the exercise that the words ask for.
+// The seed and the number of rounds of the exercise that the words ask for.
 fn exercise_in(words: &[String]) -> Option<(u64, u32)>
     ensures asked { MatchOption result
         ((seed rounds : ℕ) → IsExercise (map string_bytes words.now) seed rounds → ⊥)
@@ -84,7 +84,7 @@ pub fn command_of(words: &[String]) -> Option<Command>
     Some(Command::Exercise { seed, rounds })
 }
 
-/// Whether the words ask to serve, or try to.
+// Whether the words ask to serve, or try to.
 pub(crate) fn begins_with_serve(words: &[String]) -> bool
     ensures { IsTrue result ↔ BeginsWithServe (map string_bytes words.now) }
 {
@@ -145,7 +145,7 @@ struct Tail<'a> {
     keep: Option<&'a str>,
 }
 
-// What the words behind the number of connections ask for.
+// What the words after the number of connections ask for.
 fn tail_of(words: &[String]) -> Option<Tail<'_>>
     ensures { AsksTail (map string_bytes words.now) result }
 {
@@ -205,7 +205,7 @@ fn tail_of(words: &[String]) -> Option<Tail<'_>>
     }
 }
 
-/// What a run that serves is asked for, where the words ask for one.
+// What a run that serves is asked for, where the words ask for one.
 pub(crate) fn serve_in(words: &[String]) -> Option<Asked<'_>>
     ensures asked { AsksRun (map string_bytes words.now) result }
     ensures some { IfSome result (λ asked. 0 < asked.connections) }
@@ -247,7 +247,7 @@ pub fn later_roles(words: &[String]) -> usize
     }
 }
 
-/// Whether the words ask for a run that keeps channels. One of the roles behind its workers then has to hear of the
+/// Whether the words ask for a run that keeps channels. One of the roles after its workers then has to hear of the
 /// owner's work.
 pub fn keeps_channels(words: &[String]) -> bool
     ensures served { (asked : Service) → IsServe (map string_bytes words.now) asked → result ≡ is_some asked.keep }

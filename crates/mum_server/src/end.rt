@@ -22,7 +22,7 @@ pub enum LineFault {
     BadJournal,
     /// It names a document that is no configuration: the number of its first fault, and the key at which that is.
     BadConfig { code: u8, key: Text },
-    /// Its step is not allowed: what the step gave, against what stands.
+    /// Its step is not allowed: what the step gave, against what is expected.
     IllegalStep { given: u64, against: u64 },
     /// Its entry of a journal is wrong: what it says, and what it had to say.
     AuditWrong { given: Text, defined: Text },
@@ -43,7 +43,7 @@ pub enum End {
 }
 
 impl End {
-    /// The end of a run at a fault of line `n`.
+    // The end of a run at a fault of line `n`.
     pub(crate) fn faulty(n: u64, fault: LineFault) -> End
         ensures { result ≡ Faulty n fault }
     {
@@ -68,7 +68,7 @@ pub(crate) const WRITE_FAULT_LINE: &str = "murmur: 4 WriteFault\n";
 
 pub(crate) const MEMORY_LINE: &str = "murmur: 70 OutOfMemory\n";
 
-/// Appends what is said of a configuration's fault: its number and its key.
+// Appends what is said of a configuration's fault: its number and its key.
 fn push_config_fault(
     alloc: Global,
     text: &mut String,
@@ -82,7 +82,7 @@ fn push_config_fault(
     push_words(alloc, text, &words)
 }
 
-/// Appends the line that is at fault.
+// Appends the line that is at fault.
 fn push_place(alloc: Global, text: &mut String, n: u64) -> Result<(), OutOfMemory>
     ensures { IfOk result (λ _. string_bytes text.new ≡ string_bytes text.old
         ++ flat_map behind_word (details n faults.BadRecording)) }
@@ -90,7 +90,7 @@ fn push_place(alloc: Global, text: &mut String, n: u64) -> Result<(), OutOfMemor
     push_words(alloc, text, &[Word::Name("line"), Word::Number(n)])
 }
 
-/// Appends the line whose step is not allowed, and the two numbers.
+// Appends the line whose step is not allowed, and the two numbers.
 fn push_numbers(
     alloc: Global,
     text: &mut String,
@@ -112,7 +112,7 @@ fn push_numbers(
     push_words(alloc, text, &words)
 }
 
-/// Appends the line whose entry is wrong, what it says and what it had to say.
+// Appends the line whose entry is wrong, what it says and what it had to say.
 fn push_entry<'a>(
     alloc: Global,
     text: &mut String,
@@ -162,7 +162,7 @@ impl LineFault {
         }
     }
 
-    /// Appends where this fault of line `n` is, and what it is about.
+    // Appends where this fault of line `n` is, and what it is about.
     fn push_details(&self, alloc: Global, text: &mut String, n: u64) -> Result<(), OutOfMemory>
         ensures { IfOk result (λ _. string_bytes text.new ≡ string_bytes text.old ++ flat_map behind_word
             (details n self.now)) }
@@ -183,7 +183,7 @@ impl LineFault {
         }
     }
 
-    /// Appends what is said of this fault of line `n`, with its line feed.
+    // Appends what is said of this fault of line `n`, with its line feed.
     pub(crate) fn push(&self, alloc: Global, text: &mut String, n: u64) -> Result<(), OutOfMemory>
         ensures { IfOk result (λ _. string_bytes text.new ≡ string_bytes text.old
             ++ (line_of_words (fault_words n self.now) ++ 10 ∷ [])) }

@@ -89,7 +89,7 @@ fn journal_in(alloc: Global, text: &[u8], long: Option<u64>) -> Result<Journal, 
     Err(End::faulty(number, LineFault::TooLong))
 }
 
-/// The journal of an input, or its first line that is too long or not in the grammar.
+// The journal of an input, or its first line that is too long or not in the grammar.
 pub(crate) fn read_input<I: Source>(alloc: Global, input: &mut I) -> Result<Journal, End>
     ensures reads { ReadsInput (I.left input.old) result }
     ensures counts { CountsReads result (Rose (I.faults input.old) (I.faults input.new))

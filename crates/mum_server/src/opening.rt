@@ -16,7 +16,7 @@ use mum_record::{Limits, Version, read_config_line};
 use mum_state::Edit;
 use std::alloc::Global;
 
-/// The document that line `n` names; it has no bytes where the line says that there is none.
+// The document that line `n` names; it has no bytes where the line says that there is none.
 fn read_document(alloc: Global, n: u64, line: &[u8]) -> Result<Octets, End>
     ensures { Names n (config_of line.now) result }
 {
@@ -27,7 +27,7 @@ fn read_document(alloc: Global, n: u64, line: &[u8]) -> Result<Octets, End>
     }
 }
 
-/// The edits that the document of line `n` describes, or its first fault.
+// The edits that the document of line `n` describes, or its first fault.
 fn edits_of(alloc: Global, n: u64, document: &[u8]) -> Result<Items<Edit>, End>
     ensures describes { Describes n document.now result }
     ensures fit { IfOk result (λ edits. IsTrue (all_fit empty_state edits)) }
@@ -42,9 +42,9 @@ fn edits_of(alloc: Global, n: u64, document: &[u8]) -> Result<Items<Edit>, End>
     }
 }
 
-/// A core of so many workers to which nothing happened, at the limits, where there are any, and what the
-/// document of line `n` describes; or the first fault of the document. How many workers the document names is
-/// not looked at.
+// A core of n workers to which nothing happened, at the limits, where there are any, and what the
+// document of line `n` describes; or the first fault of the document. How many workers the document names is
+// not looked at.
 pub(crate) fn open_core(
     alloc: Global,
     n: u64,
@@ -59,7 +59,7 @@ pub(crate) fn open_core(
     Ok(PlainCore::begin(alloc, Version::with_limits(&limits), workers, opening)?)
 }
 
-/// The core at which the steps begin behind line `n`, which names the configuration.
+// The core at which the steps begin after line `n`, which names the configuration.
 pub(crate) fn begin(
     alloc: Global,
     n: u64,

@@ -20,7 +20,7 @@ use std::alloc::Global;
 pub(crate) const USAGE_LINE: &str = "usage: murmur replay | audit | exercise SEED STEPS | \
     serve ADDRESS SESSIONS [journal] [view ADDRESS VIEWS] [keep PATH]\n";
 
-/// Runs an exercise, and writes the line of what came of it.
+// Runs an exercise, and writes the line of what came of it.
 fn run_exercise<O: Sink>(alloc: Global, seed: u64, rounds: u32, output: &mut O) -> End
     ensures ends { Ends (exercise_outcome seed rounds) result (O.written output.old) (O.written output.new) }
     ensures writes { WritesCounted result (O.faults output.old) (O.faults output.new) }
@@ -35,7 +35,7 @@ fn run_exercise<O: Sink>(alloc: Global, seed: u64, rounds: u32, output: &mut O) 
     }
 }
 
-/// Runs what a command asks for. An exercise leaves the input alone.
+// Runs what a command asks for. An exercise leaves the input alone.
 fn run<I: Source, O: Sink>(alloc: Global, command: Command, input: &mut I, output: &mut O) -> End
     ensures ends { IfSome (outcome_of command (I.left input.old))
         (λ outcome. Ends outcome result (O.written output.old) (O.written output.new)) }
@@ -51,7 +51,7 @@ fn run<I: Source, O: Sink>(alloc: Global, command: Command, input: &mut I, outpu
     }
 }
 
-/// Writes a line to the error stream, as far as that takes it.
+// Writes a line to the error stream, as far as that takes it.
 pub(crate) fn say<E: Sink>(errors: &mut E, line: &str)
     ensures { Tells line.now (E.written errors.old) (E.written errors.new)
         (Rose (E.faults errors.old) (E.faults errors.new)) }
@@ -69,7 +69,7 @@ pub fn out_of_memory<E: Sink>(errors: &mut E) -> u8
     70
 }
 
-/// Says what is wrong with a line, and gives the status of it, or that of want of memory.
+// Says what is wrong with a line, and gives the status of it, or that of out of memory.
 fn report_fault<E: Sink>(alloc: Global, n: u64, fault: &LineFault, errors: &mut E) -> u8
     ensures { Reports (Faulty n fault.now) result (E.written errors.old) (E.written errors.new)
         (Rose (E.faults errors.old) (E.faults errors.new)) }
@@ -82,7 +82,7 @@ fn report_fault<E: Sink>(alloc: Global, n: u64, fault: &LineFault, errors: &mut 
     fault.status()
 }
 
-/// Says how the run ended, and gives its status. Only the line of a fault takes memory.
+// Says how the run ended, and gives its status. Only the line of a fault takes memory.
 pub(crate) fn report<E: Sink>(alloc: Global, end: &End, errors: &mut E) -> u8
     ensures { Reports end.now result (E.written errors.old) (E.written errors.new)
         (Rose (E.faults errors.old) (E.faults errors.new)) }

@@ -25,13 +25,13 @@ use std::mem::{drop, replace};
 pub enum Phase {
     /// The line `recording 1` or `recording 2`.
     Head,
-    /// The line that tells the number of workers, in this version.
+    /// The line that gives the number of workers, in this version.
     Workers(Version),
-    /// The line of the limits, behind the number of workers.
+    /// The line of the limits, after the number of workers.
     Limits(u8),
-    /// The line of the configuration, behind the number of workers.
+    /// The line of the configuration, after the number of workers.
     Config(u8),
-    /// The line of the configuration, behind the number of workers and the limits.
+    /// The line of the configuration, after the number of workers and the limits.
     LimitedConfig(u8, Limits),
     /// The lines of steps.
     Running(PlainCore),
@@ -39,7 +39,7 @@ pub enum Phase {
     Over,
 }
 
-/// The step that line `n` says.
+// The step that line `n` says.
 fn read(alloc: Global, n: u64, line: &[u8]) -> Result<Step, End>
     ensures said { Says n (step_of line.now) result }
     ensures recordable { IfOk result IsRecordable }
@@ -51,7 +51,7 @@ fn read(alloc: Global, n: u64, line: &[u8]) -> Result<Step, End>
     }
 }
 
-/// Takes line `n`, which says a step, and appends what it tells.
+// Takes line `n`, which says a step, and appends what it reports.
 fn take_step(core: &mut PlainCore, n: u64, step: &Step, text: &mut String) -> Result<(), End>
     requires { IsRecordable step.now }
     ensures { StepAnswers n core.old step.now (string_bytes text.old) result core.new (string_bytes text.new) }
@@ -67,15 +67,15 @@ fn take_step(core: &mut PlainCore, n: u64, step: &Step, text: &mut String) -> Re
     Ok(())
 }
 
-/// Whether a step is the last.
+// Whether a step is the last.
 fn is_end(step: &Step) -> bool
     ensures { result ≡ is_end step.now }
 {
     matches!(step, Step::End)
 }
 
-/// What comes behind the line of the workers: that of the limits in version 2, and else that of the
-/// configuration.
+// What comes after the line of the workers: that of the limits in version 2, and else that of the
+// configuration.
 fn behind_workers(version: Version, workers: u8) -> Phase
     ensures { result ≡ phase_behind_workers version workers }
 {
@@ -85,7 +85,7 @@ fn behind_workers(version: Version, workers: u8) -> Phase
     }
 }
 
-/// Takes line `n`, which says a step, and appends what it tells. Whether it was the last.
+// Takes line `n`, which says a step, and appends what it reports. Whether it was the last.
 #[tactic(auto, unfolding(crate::specs::Replay::answer))]
 fn take_line(
     alloc: Global,
@@ -103,7 +103,7 @@ fn take_line(
 }
 
 impl Phase {
-    /// Goes over to another phase.
+    // Goes over to another phase.
     #[inline(never)]
     fn turn(&mut self, next: Phase)
         ensures { self.new ≡ next }
@@ -111,7 +111,7 @@ impl Phase {
         drop(replace(self, next));
     }
 
-    /// Takes the first line, which names the version.
+    // Takes the first line, which names the version.
     fn take_version(&mut self, n: u64, line: &[u8]) -> Result<(), End>
         ensures { Moves n (version_answer (recording_version line.now)) result self.new }
     {
@@ -122,7 +122,7 @@ impl Phase {
         Ok(())
     }
 
-    /// Takes the line of the number of workers.
+    // Takes the line of the number of workers.
     fn take_workers(&mut self, n: u64, version: Version, line: &[u8]) -> Result<(), End>
         ensures { Moves n (workers_answer version (workers_of line.now)) result self.new }
     {
@@ -133,7 +133,7 @@ impl Phase {
         Ok(())
     }
 
-    /// Takes the line of the limits.
+    // Takes the line of the limits.
     fn take_limits(&mut self, n: u64, workers: u8, line: &[u8]) -> Result<(), End>
         ensures { Moves n (limits_answer workers (limits_of line.now)) result self.new }
     {
@@ -144,7 +144,7 @@ impl Phase {
         Ok(())
     }
 
-    /// Takes the line of the configuration.
+    // Takes the line of the configuration.
     fn take_config(
         &mut self,
         alloc: Global,
@@ -160,8 +160,8 @@ impl Phase {
         Ok(())
     }
 
-    /// Takes line `n`, which is not too long, and appends what it tells to the transcript, which has
-    /// nothing yet.
+    // Takes line `n`, which is not too long, and appends what it reports to the transcript, which has
+    // nothing yet.
     #[tactic(auto, unfolding(crate::specs::Replay::answer))]
     fn take(&mut self, alloc: Global, n: u64, line: &[u8], text: &mut String) -> Result<(), End>
         requires { string_bytes text.old ≡ [] }
@@ -197,13 +197,13 @@ impl Phase {
     }
 }
 
-/// A run over a recording.
+// A run over a recording.
 #[derive(Drop)]
 struct Run {
     phase: Phase,
     /// The number of the next line, from 1.
     line: u64,
-    /// What the last line told.
+    /// What the last line reported.
     text: String,
 }
 
@@ -219,7 +219,7 @@ impl Run {
         }
     }
 
-    /// Takes the next line.
+    // Takes the next line.
     fn take(&mut self, alloc: Global, line: &[u8]) -> Result<(), End>
         requires { self.old.line + 1 < 2 ^ 64 }
         ensures { Advances self.old line.now result self.new }
@@ -230,7 +230,7 @@ impl Run {
         Ok(())
     }
 
-    /// How the run ends at the end of the input.
+    // How the run ends at the end of the input.
     fn ended(&self) -> End
         ensures { result ≡ end_of self.now.phase self.now.line }
     {
@@ -241,7 +241,7 @@ impl Run {
     }
 }
 
-/// Writes what a line told. Whether all of it was written.
+// Writes what a line reported. Whether all of it was written.
 fn wrote<O: Sink>(output: &mut O, text: &str) -> bool
     ensures whole { result ≡ true → Appends (O.written output.old) (O.written output.new) text.now
         × (O.faults output.new ≡ O.faults output.old) }
@@ -251,8 +251,8 @@ fn wrote<O: Sink>(output: &mut O, text: &str) -> bool
     write_all(output, text.as_bytes()).is_ok()
 }
 
-/// Writes the transcript of a recording, line by line, from a run that took no line yet on. What a line tells is
-/// written before the next line is read.
+// Writes the transcript of a recording, line by line, from a run that took no line yet on. What a line reports is
+// written before the next line is read.
 fn replay_lines<I: Source, O: Sink>(
     alloc: Global,
     reader: &mut LineReader,
@@ -286,7 +286,7 @@ fn replay_lines<I: Source, O: Sink>(
     }
 }
 
-/// Reads a recording and writes its transcript, line by line, and tells how the run over it ended.
+// Reads a recording and writes its transcript, line by line, and reports how the run over it ended.
 pub(crate) fn replay<I: Source, O: Sink>(alloc: Global, input: &mut I, output: &mut O) -> End
     ensures ends { IfSome (I.left input.old) (λ bytes. Ends (replayed bytes) result (O.written output.old)
         (O.written output.new)) }

@@ -28,7 +28,7 @@ const KEEPER_FAULT_LINE: &str = "murmur: 12 KeeperFault\n";
 
 const BAD_STORE_LINE: &str = "murmur: 13 BadStore\n";
 
-/// The number of the line that a configuration is.
+// The number of the line that a configuration is.
 const CONFIG_LINE: u64 = 1;
 
 // Says this line, and gives this status.
@@ -63,9 +63,9 @@ fn report_server<E: Sink>(alloc: Global, end: ServerEnd, errors: &mut E) -> u8
 }
 
 /// The program. `serve ADDRESS SESSIONS` reads a configuration from the input, opens the door at the address, serves
-/// that many connections, and writes a line of totals when all are closed. With `journal` behind these words it
-/// writes a journal before it, which is legal. With `view ADDRESS VIEWS` behind them it also opens the second door,
-/// gives each connection of that one the view of the state, at most so many, and writes a line of the views behind the
+/// that many connections, and writes a line of totals when all are closed. With `journal` after these words it
+/// writes a journal before it, which is legal. With `view ADDRESS VIEWS` after them it also opens the second door,
+/// gives each connection of that one the view of the state, at most n, and writes a line of the views after the
 /// totals. With `keep PATH` last of all, and without `journal`, the keeper is opened at the path; where it has rows of
 /// channels the server begins with these channels, and it is brought to the rows of what is accepted. Other words are
 /// those of `run_plain`. The server asks the clock by which bans start and end. The doors, the clock and the keeper

@@ -1,24 +1,6 @@
 -- What holds of all decisions on channels, case by case.
-use Rattle.std.proofs.Common.{ℤ, ℕ, Bool, List, Option, None, Some}
-use Rattle.std.specs.Option.{option_map_or}
-use Rattle.mum_base.specs.declared.number.ChannelId.{ChannelId}
-use Rattle.mum_base.specs.declared.number.SessionId.{SessionId}
-use Rattle.mum_base.specs.declared.perm.Perm.{Perm}
-use Rattle.mum_frame.specs.declared.frame.Frame.{Frame}
-use Rattle.mum_policy.specs.declared.policy.ChannelPolicy.{ChannelPolicy}
-use Rattle.mum_tree.specs.declared.channel.ChannelInfo.{ChannelInfo}
-use Rattle.mum_state.specs.declared.edit.Edit.TheVariants.{MakeChannel, EditChannel, RemoveChannel, SetAcl}
-use Rattle.mum_state.specs.declared.verdict.Verdict.{Verdict}
-use Rattle.mum_state.specs.declared.verdict.Verdict.TheVariants.{Accepted, Lacks, Refused, Answer, Ignored}
-use Rattle.mum_state.specs.State.{StateValue, policy_of}
-use Rattle.mum_rules_tree.specs.declared.message.TreeMessage.{TreeMessage}
-use Rattle.mum_rules_tree.specs.Asked.{Command as TreeCommand, command_of as tree_command_of}
-use Rattle.mum_rules_tree.specs.Decision.{first_lack, first_standing}
-use Rattle.mum_rules_tree.specs.Limits.{limits as limits_of_tree}
+use Rattle.mum_session.proofs.Common.{ℤ, ℕ, Bool, List, Option, None, Some, option_map_or, ChannelId, SessionId, Perm, Frame, ChannelPolicy, ChannelInfo, MakeChannel, EditChannel, RemoveChannel, SetAcl, Verdict, Accepted, Lacks, Refused, Answer, Ignored, StateValue, policy_of, TreeMessage, TreeCommand, tree_command_of, first_lack, first_standing, limits_of_tree, answer_of_tree, outcome_of_tree, reasons_of_tree, actor_named, tree_verdict}
 use Rattle.mum_rules_tree.specs.Needs.{needs as needs_of_tree}
-use Rattle.mum_rules_tree.specs.Outcome.{answer_frame as answer_of_tree, outcome as outcome_of_tree}
-use Rattle.mum_rules_tree.specs.Reasons.{reasons as reasons_of_tree}
-use Rattle.mum_rules_tree.specs.Verdict.{actor_named, tree_verdict}
 
 pub record Holds (P : Verdict → Type 0) : Type 0 where
   pub ignored : (why : ℕ) → P (Ignored why)

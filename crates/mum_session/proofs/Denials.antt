@@ -1,23 +1,6 @@
 -- A denial is short enough for a frame.
-use Rattle.std.proofs.Common.{◌≡◌, ℕ, ◌≤◌, Bool, true, false, cond, List, length, length-append, Option, Some, None, refl, ap, ◌∙◌, arith}
-use Rattle.std.specs.Prelude.{◌==◌, codes}
-use Rattle.std.specs.Option.{option_map}
-use Rattle.std.proofs.lemmas.Bool.{le-leb}
-use Rattle.mum_base.specs.declared.{number.ChannelId.ChannelId, number.SessionId.SessionId, perm.Perm.Perm}
-use Rattle.mum_fields.specs.Table.{spelled}
-use Rattle.mum_fields.proofs.Sizes.{length-shortest}
-use Rattle.mum_frame.specs.declared.frame.Frame.{Frame}
-use Rattle.mum_frame.specs.declared.frame.TheConstants.{PAYLOAD_LIMIT}
-use Rattle.mum_frame.specs.Frame.{frame_spelling}
-use Rattle.mum_msg_rule.specs.declared.permission_denied.PermissionDenied.{PermissionDenied}
-use Rattle.mum_msg_rule.specs.Messages.{permission_denied}
-use Rattle.mum_msg_state.specs.Messages.{reject}
-use Rattle.mum_state.specs.declared.verdict.Verdict.{Verdict}
-use Rattle.mum_state.specs.declared.verdict.Verdict.TheVariants.{Accepted, Lacks, Refused, Rejected, Answer, Ignored}
-use Rattle.mum_base.specs.Codes.{deny_code}
-use Rattle.mum_base.specs.declared.outcome.DenyType.TheVariants.{Text}
-use Rattle.mum_rules_tree.specs.Denial.{denial, denial_of_lack, denial_of_limit, denied_frame, rejected_frame, rejection}
-use Rattle.mum_session.specs.Reply.{sendable, wire}
+use Rattle.mum_session.proofs.Common.{◌≡◌, ℕ, ◌≤◌, Bool, true, false, cond, List, length, length-append, Option, Some, None, refl, ap, ◌∙◌, arith, ◌==◌, codes, option_map, le-leb, ChannelId, SessionId, Perm, spelled, length-shortest, Frame, PAYLOAD_LIMIT, frame_spelling, PermissionDenied, permission_denied, reject, Verdict, Accepted, Lacks, Refused, Answer, Ignored, deny_code, Text, denial, denial_of_lack, denial_of_limit, denied_frame, rejected_frame, rejection, sendable, wire}
+use Rattle.mum_state.specs.declared.verdict.Verdict.TheVariants.{Rejected}
 
 lack_short : (actor : Option SessionId) (perm : Perm) (channel : ChannelId) → length (spelled permission_denied (denial_of_lack actor perm channel)) ≤ PAYLOAD_LIMIT
 lack_short None perm channel =

@@ -1,55 +1,7 @@
 -- Who enters a channel by a command of its own may enter it.
-use Rattle.std.proofs.Common.{◌≡◌, ◌⊎◌, inl, inr, ℕ, ◌==◌, ◌&&◌, ◌||◌, Bool, true, false, not, cond, List, [], ◌∷◌, map, refl, sym, ap, subst, ◌∙◌, Option, Some, None, unwrap_or, IsTrue}
-use Rattle.std.specs.List.{filter, list_any}
-use Rattle.std.specs.Option.{option_map_or}
-use Rattle.std.proofs.lemmas.Bool.{and_from, and_parts, both_ways, eq-eqb, eqb-true, false≢true}
-use Rattle.mum_base.specs.Codes.{reason_code}
-use Rattle.mum_base.specs.declared.number.ChannelId.{ChannelId}
-use Rattle.mum_base.specs.declared.number.SessionId.{SessionId}
-use Rattle.mum_base.specs.declared.outcome.Reason.TheVariants.{NotThere}
-use Rattle.mum_msg_state.specs.declared.channel_state.ChannelState.{ChannelState}
-use Rattle.mum_msg_state.specs.declared.user_state.UserState.{UserState}
-use Rattle.mum_policy.specs.Member.{Actor}
-use Rattle.mum_policy.specs.declared.policy.ChannelPolicy.{ChannelPolicy}
-use Rattle.mum_tree.specs.declared.channel.ChannelInfo.{ChannelInfo}
-use Rattle.mum_tree.specs.Refusals.{parent_of}
-use Rattle.mum_tree.specs.Rows.{is_below}
-use Rattle.mum_users.specs.declared.user.User.{User as UserRow}
-use Rattle.mum_users.specs.Edit.{UserEdit, changed_user}
-use Rattle.mum_users.specs.State.{RosterState, has_number, is_in}
-use Rattle.mum_state.specs.declared.edit.Edit.{Edit}
-use Rattle.mum_state.specs.declared.edit.Edit.TheVariants.{Leave, MakeChannel, RemoveChannel, SetAcl, SetTarget, SetTokens}
-use Rattle.mum_state.specs.declared.verdict.Verdict.TheVariants.{Accepted, Answer, Ignored}
-use Rattle.mum_state.specs.Applied.{applied}
-use Rattle.mum_state.specs.Parts.{user_parts}
-use Rattle.mum_state.specs.Permissions.{granted_where_there}
-use Rattle.mum_state.specs.Set.{moved_up, set_by}
-use Rattle.mum_state.specs.State.{StateValue, policy_of}
-use Rattle.mum_state.proofs.Each.{any_map}
-use Rattle.mum_state.proofs.Renewing.{targeted_sessions}
-use Rattle.mum_state.proofs.Suppressed.{heard, heard_after, silent_after}
-use Rattle.mum_rules_tree.specs.Asked.{Command as TreeCommand, channel_or_root, command_of as tree_command_of, is_to_be_temporary, parent_of_new, text_or_empty}
-use Rattle.mum_rules_tree.specs.Decision.{first_lack, first_standing}
-use Rattle.mum_rules_tree.specs.Laws.{needs_of as needs_of_tree}
-use Rattle.mum_rules_tree.specs.Limits.{limits as limits_of_tree, new_number}
-use Rattle.mum_rules_tree.specs.Outcome.{answer_frame as answer_of_tree, edit_to_change as edit_to_change_channel, edit_to_make, info_of_new, outcome as outcome_of_tree}
-use Rattle.mum_rules_tree.specs.Policy.{policy_asked}
-use Rattle.mum_rules_tree.specs.Reasons.{reasons as reasons_of_tree}
-use Rattle.mum_rules_tree.specs.Verdict.{actor_named}
-use Rattle.mum_rules_tree.proofs.Complete.{outcome_at}
-use Rattle.mum_rules_user.specs.declared.message.UserMessage.{UserMessage}
+use Rattle.mum_session.proofs.Common.{◌≡◌, ◌⊎◌, inl, inr, ℕ, ◌==◌, ◌&&◌, ◌||◌, Bool, true, false, not, cond, List, [], ◌∷◌, map, refl, sym, ap, subst, ◌∙◌, Option, Some, None, unwrap_or, IsTrue, filter, list_any, option_map_or, and_from, and_parts, both_ways, eq-eqb, eqb-true, false≢true, reason_code, ChannelId, SessionId, NotThere, ChannelState, UserState, Actor, ChannelPolicy, ChannelInfo, parent_of, is_below, UserRow, UserEdit, changed_user, RosterState, has_number, is_in, Edit, MakeChannel, RemoveChannel, SetAcl, SetTarget, SetTokens, Accepted, Answer, Ignored, applied, user_parts, granted_where_there, moved_up, set_by, StateValue, policy_of, any_map, targeted_sessions, heard, heard_after, silent_after, TreeCommand, channel_or_root, tree_command_of, is_to_be_temporary, parent_of_new, text_or_empty, first_lack, first_standing, needs_of_tree, limits_of_tree, new_number, answer_of_tree, edit_to_change_channel, edit_to_make, info_of_new, outcome_of_tree, policy_asked, reasons_of_tree, actor_named, outcome_at, UserMessage, channels, command_of, is_oneself, new_channel, number_of_target, session_or, target_asked, needs_of, limits, tokens_kept, answer_frame, edit_to_change, edit_to_kick, edit_to_tell, outcome, reasons, actor_for, user_verdict, enters_where_permitted_lem, Tree, User, EntersWherePermitted, MakesItsOwn, RemovesAround, is_member, is_member_below, may_enter, verdict}
+use Rattle.mum_state.specs.declared.edit.Edit.TheVariants.{Leave}
 use Rattle.mum_rules_user.specs.declared.message.UserMessage.TheVariants as users
-use Rattle.mum_rules_user.specs.Asked.{channels, command_of, is_oneself, new_channel, number_of_target, session_or, target_asked}
-use Rattle.mum_rules_user.specs.Laws.{needs_of}
-use Rattle.mum_rules_user.specs.Limits.{limits}
-use Rattle.mum_rules_user.specs.Login.{tokens_kept}
-use Rattle.mum_rules_user.specs.Outcome.{answer_frame, edit_to_change, edit_to_kick, edit_to_tell, outcome}
-use Rattle.mum_rules_user.specs.Reasons.{reasons}
-use Rattle.mum_rules_user.specs.Verdict.{actor_for, user_verdict}
-use Rattle.mum_rules_user.proofs.Access.{enters_where_permitted_lem}
-use Rattle.mum_session.specs.declared.command.Asked.TheVariants.{Tree, User}
-use Rattle.mum_session.specs.Laws.{EntersWherePermitted, MakesItsOwn, RemovesAround, is_member, is_member_below, may_enter}
-use Rattle.mum_session.specs.Verdict.{verdict}
 
 -- ---- who is in a channel of a list
 

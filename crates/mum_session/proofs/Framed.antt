@@ -1,47 +1,8 @@
--- What an accepted command itself says is told in one frame: its own message was not too long.
-use Rattle.std.proofs.Common.{◌≡◌, ℕ, ◌+◌, ◌≤◌, ◌==◌, Bool, true, false, List, [], ◌∷◌, length, map, Option, Some, None, Result, Ok, Err, IfOk, refl, ap, subst, sym, arith}
-use Rattle.std.specs.List.{AllByRecursion}
-use Rattle.std.specs.Option.{option_map_or}
-use Rattle.std.proofs.lemmas.Bool.{ltb-false}
-use Rattle.mum_base.specs.declared.number.ChannelId.{ChannelId}
-use Rattle.mum_base.specs.declared.number.SessionId.{SessionId}
-use Rattle.mum_fields.specs.declared.shape.Label.TheVariants.{Optional, Required, Repeated}
-use Rattle.mum_fields.specs.Table.{Layout, Nothing, Field, Blocks, Values, bool, each_message, items, layout, parts, row_items, spelled, string, uint32}
-use Rattle.mum_fields.specs.Written.{written}
-use Rattle.mum_msg_rule.specs.Messages.{text_message}
-use Rattle.mum_msg_rule.specs.declared.text_message.TextMessage.{TextMessage}
-use Rattle.mum_msg_state.specs.Messages.{user_remove}
-use Rattle.mum_msg_state.specs.declared.user_remove.UserRemove.{UserRemove}
-use Rattle.mum_policy.specs.Member.{Actor}
-use Rattle.mum_state.specs.declared.verdict.Verdict.{Verdict}
-use Rattle.mum_state.specs.declared.verdict.Verdict.TheVariants.{Answer}
-use Rattle.mum_state.specs.Permissions.{granted_where_there}
-use Rattle.mum_state.specs.State.{StateValue}
-use Rattle.mum_rules_tree.specs.Asked.{channel_or_root, text_or_empty}
-use Rattle.mum_rules_tree.specs.Decision.{first_lack, first_standing}
-use Rattle.mum_rules_tree.specs.declared.message.TreeMessage.{TreeMessage}
-use Rattle.mum_rules_tree.specs.declared.reason.TheConstants.{COMMAND_LIMIT}
-use Rattle.mum_rules_tree.specs.Verdict.{tree_verdict}
-use Rattle.mum_rules_tree.proofs.Cleared.{all_off}
-use Rattle.mum_rules_user.specs.declared.message.UserMessage.{UserMessage}
-use Rattle.mum_rules_user.specs.declared.message.UserMessage.TheVariants.{Join, User, Kick, Text, Target, Query, Leave}
-use Rattle.mum_rules_user.specs.Asked.{channels, command_of, payload_of, session_numbered, session_or}
-use Rattle.mum_rules_user.specs.Limits.{limits}
-use Rattle.mum_rules_user.specs.Login.{limits_of_login}
-use Rattle.mum_rules_user.specs.Needs.{is_ban, needs}
-use Rattle.mum_rules_user.specs.Outcome.{answer_frame, answer_to_query, edit_to_kick, edit_to_tell, outcome}
-use Rattle.mum_rules_user.specs.Reasons.{reasons}
-use Rattle.mum_rules_user.specs.Verdict.{actor_for, heard_verdict, user_verdict}
-use Rattle.mum_notify.specs.Channels.{numbers, said_unless}
-use Rattle.mum_notify.specs.Gone.{user_kicked}
-use Rattle.mum_notify.specs.Notices.{FitsFrame}
-use Rattle.mum_notify.specs.Parcels.{IsWithinFrame, text_payload, user_gone_payload}
-use Rattle.mum_notify.specs.Texts.{session_numbers, text_told}
-use Rattle.mum_notify.proofs.Bounds.{row-few, written-append}
-use Rattle.mum_session.specs.declared.command.Asked.{Asked}
-use Rattle.mum_session.specs.declared.command.Asked.TheVariants as commands
-use Rattle.mum_session.specs.Verdict.{edits_of, verdict}
+-- What an accepted command itself says is sent in one frame: its own message was not too long.
+use Rattle.mum_session.proofs.Common.{◌≡◌, ℕ, ◌+◌, ◌≤◌, ◌==◌, Bool, true, false, List, [], ◌∷◌, length, map, Option, Some, None, Result, Ok, Err, IfOk, refl, ap, subst, sym, arith, AllByRecursion, option_map_or, ltb-false, ChannelId, SessionId, Optional, Required, Repeated, Layout, Nothing, Field, Blocks, Values, bool, each_message, items, layout, parts, row_items, spelled, string, uint32, written, text_message, TextMessage, user_remove, UserRemove, Actor, Verdict, Answer, granted_where_there, StateValue, channel_or_root, text_or_empty, first_lack, first_standing, TreeMessage, COMMAND_LIMIT, tree_verdict, all_off, UserMessage, Join, Kick, Target, Query, Leave, channels, command_of, payload_of, session_numbered, session_or, limits, limits_of_login, is_ban, needs, answer_frame, answer_to_query, edit_to_kick, edit_to_tell, outcome, reasons, actor_for, heard_verdict, user_verdict, numbers, said_unless, user_kicked, FitsFrame, IsWithinFrame, text_payload, user_gone_payload, session_numbers, text_told, row-few, written-append, Asked, edits_of, verdict}
+use Rattle.mum_rules_user.specs.declared.message.UserMessage.TheVariants.{User, Text}
 use Rattle.mum_session.proofs.Channels.{tree_holds, unless}
+use Rattle.mum_session.specs.declared.command.Asked.TheVariants as commands
 
 -- ---- a message takes what its fields take
 
@@ -94,7 +55,7 @@ text_fits actor sent short =
     text_within sent (text_told actor (map session_numbered sent.session) (channels sent.channel_id) (channels sent.tree_id) (text_or_empty sent.message))
     (same_sessions sent.session) (same_channels sent.channel_id) (same_channels sent.tree_id) (message_few sent.message) short
 
--- ---- who is put out
+-- ---- who is kicked
 
 abbrev reason_size : Option (List ℕ) → ℕ
 reason_size reason = length (written (row_items Optional string 3 reason))

@@ -1,13 +1,5 @@
--- What a frame asks for and the machine behind it, by the type of the frame.
-use Rattle.std.proofs.Common.{◌≡◌, ℕ, Bool, true, false, cond, List, Option, Some, None, Ok, Err, refl, sym, ap, ◌∙◌}
-use Rattle.std.proofs.lemmas.Bool.{ne_eqb}
-use Rattle.mum_base.specs.declared.number.SessionId.{SessionId}
-use Rattle.mum_fields.specs.Table.{decoded}
-use Rattle.mum_frame.specs.declared.kind.TheConstants.{UDP_TUNNEL, VERSION, PING, AUTHENTICATE}
-use Rattle.mum_msg_state.specs.Messages.{ping, version}
-use Rattle.mum_session.specs.declared.action.Action.{Action}
-use Rattle.mum_session.specs.Action.{Decoded, action, after_frame, asks, kept_version, other_action, ping_action, version_action, version_after, voice_action}
-use Rattle.mum_session.specs.Machine.{Machine, is_rejected}
+-- What a frame asks for and the machine after it, by the type of the frame.
+use Rattle.mum_session.proofs.Common.{◌≡◌, ℕ, Bool, true, false, cond, List, Option, Some, None, Ok, Err, refl, sym, ap, ◌∙◌, ne_eqb, SessionId, decoded, UDP_TUNNEL, VERSION, PING, AUTHENTICATE, ping, version, Action, Decoded, action, after_frame, asks, kept_version, other_action, ping_action, version_action, version_after, voice_action, Machine, is_rejected}
 
 pub voice-asks_nothing : (session : Option SessionId) (payload : List ℕ) → asks (voice_action session payload) ≡ false
 voice-asks_nothing None payload = refl
@@ -29,7 +21,7 @@ one_way false x = refl
 pub keeps-number : (machine : Machine) (kind : ℕ) (payload : List ℕ) → (kind ≡ VERSION → ⊥) → kept_version machine kind payload ≡ machine.version
 keeps-number machine kind payload other = rw (ne_eqb kind VERSION other) (one_way (is_rejected machine.stage) machine.version)
 
--- the machine behind what was asked for
+-- the machine after what was asked for
 pub behind : (machine : Machine) (kind : ℕ) (payload : List ℕ) (a : Action) → a ≡ action machine kind payload → (kind ≡ VERSION → ⊥) → record machine { awaits = asks a } ≡ after_frame machine kind payload
 unfolding after_frame
 behind machine kind payload a is other =
@@ -47,14 +39,14 @@ unfolding after_frame action
 behind-gone machine kind payload waits gone =
     rw gone (ap (λ (b : Bool). record machine { awaits = b }) waits)
 
--- behind a Version
+-- after a Version
 pub behind-version : (machine : Machine) (kind : ℕ) (payload : List ℕ) → machine.awaits ≡ false → is_rejected machine.stage ≡ false → kind ≡ VERSION
     → record machine { version = version_after machine.version (decoded version payload) } ≡ after_frame machine kind payload
 unfolding after_frame action
 behind-version machine kind payload waits stays is =
     rw (stays, is) (ap (λ (b : Bool). record machine { version = version_after machine.version (decoded version payload); awaits = b }) (waits ∙ sym (version-asks_nothing (decoded version payload))))
 
--- a type that stands for none of those that are told apart first
+-- a type that stands for none of those that are distinguished first
 pub other-asks : (machine : Machine) (kind : ℕ) (payload : List ℕ) → is_rejected machine.stage ≡ false
     → (kind ≡ UDP_TUNNEL → ⊥) → (kind ≡ VERSION → ⊥) → (kind ≡ PING → ⊥) → (kind ≡ AUTHENTICATE → ⊥) → other_action machine kind payload ≡ action machine kind payload
 unfolding action

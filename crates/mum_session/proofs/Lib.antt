@@ -1,3 +1,5 @@
+mod Common
+pub mod Public
 pub mod Tables
 pub mod Echoes
 pub mod Strangers

@@ -1,24 +1,6 @@
 -- What asks for bans.
-use Rattle.std.proofs.Common.{◌≡◌, ◌∙◌, ℕ, Bool, true, false, cond, List, Option, Some, None, Ok, Err, refl, sym, ap, subst, ◌==◌, ◌&&◌, eqb}
-use Rattle.std.specs.List.{list_any}
-use Rattle.std.proofs.lemmas.Bool.{and_parts, eqb-true, ne_eqb}
-use Rattle.mum_base.specs.declared.number.SessionId.{SessionId}
-use Rattle.mum_base.specs.declared.outcome.Reason.TheVariants.{Gone, NotLoggedIn, NotRead}
-use Rattle.mum_fields.specs.Table.{decoded}
-use Rattle.mum_frame.specs.declared.kind.TheConstants.{UDP_TUNNEL, VERSION, PING, AUTHENTICATE}
-use Rattle.mum_msg_state.specs.Messages.{ping, version}
-use Rattle.mum_session.specs.Action.{Decoded, action, after_login, bans_action, command_action, commands_after_login, ignore, login_action, other_action, ping_action, tree_or_user_action, version_action, voice_action}
-use Rattle.mum_session.specs.Heard.{command_heard, login_heard}
-use Rattle.mum_session.specs.Laws.{SendsBans}
-use Rattle.mum_session.specs.Machine.{Machine, is_rejected, session_of}
-use Rattle.mum_session.specs.declared.action.Action.{Action}
-use Rattle.mum_session.specs.declared.action.Action.TheVariants.{Bans}
-use Rattle.mum_session.specs.declared.action.TheConstants.{BAN_LIST}
-use Rattle.mum_session.specs.declared.command.Asked.{Asked}
-use Rattle.mum_session.specs.declared.heard.Heard.{Heard}
+use Rattle.mum_session.proofs.Common.{◌≡◌, ◌∙◌, ℕ, Bool, true, false, cond, List, Option, Some, None, Ok, Err, refl, sym, ap, subst, ◌==◌, ◌&&◌, eqb, list_any, and_parts, eqb-true, ne_eqb, SessionId, Gone, NotLoggedIn, NotRead, decoded, UDP_TUNNEL, VERSION, PING, AUTHENTICATE, ping, version, Decoded, action, after_login, bans_action, command_action, commands_after_login, ignore, login_action, other_action, ping_action, tree_or_user_action, version_action, voice_action, command_heard, login_heard, SendsBans, Machine, is_rejected, session_of, Action, Bans, BAN_LIST, Asked, Heard, Stage, BeforeLogin, LoggedIn, Rejected}
 use Rattle.mum_session.specs.declared.heard.Heard.TheVariants as heard
-use Rattle.mum_session.specs.declared.session.Stage.{Stage}
-use Rattle.mum_session.specs.declared.session.Stage.TheVariants.{BeforeLogin, LoggedIn, Rejected}
 
 abbrev is_bans : Action → Bool
 is_bans (Bans payload) = true

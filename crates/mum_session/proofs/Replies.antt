@@ -1,11 +1,7 @@
 -- How a verdict ends the wait for its reply.
-use Rattle.std.proofs.Common.{◌≡◌, ℕ, ap, refl}
-use Rattle.mum_base.specs.declared.number.{SessionId.SessionId, Slot.Slot}
+use Rattle.mum_session.proofs.Common.{◌≡◌, ℕ, ap, refl, SessionId, Slot, Verdict, Accepted, JoinsAs, reply_end}
+use Rattle.mum_state.specs.declared.{edit.Edit.TheVariants.Join, verdict.Verdict.TheVariants.Rejected}
 use Rattle.mum_base.specs.declared.reply.ReplyEnd.TheVariants as ends
-use Rattle.mum_state.specs.declared.edit.Edit.TheVariants.{Join}
-use Rattle.mum_state.specs.declared.verdict.Verdict.{Verdict}
-use Rattle.mum_state.specs.declared.verdict.Verdict.TheVariants.{Accepted, Rejected}
-use Rattle.mum_session.specs.Reply.{JoinsAs, reply_end}
 
 pub joined_of : (verdict : Verdict) (session : SessionId) (slot : Slot) → reply_end verdict ≡ ends.Joined session slot → JoinsAs session slot verdict
 joined_of (Accepted (Join own place name account tokens)) session slot is = (name, account, tokens, cc)

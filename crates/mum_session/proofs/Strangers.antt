@@ -1,14 +1,5 @@
 -- Payloads that are not looked at.
-use Rattle.std.proofs.Common.{◌≡◌, ◌==◌, ◌||◌, ℕ, eqb, Bool, true, false, List, Option, Some, None, refl, sym}
-use Rattle.std.specs.List.{list_any}
-use Rattle.std.proofs.lemmas.Bool.{eqb-false, ne_eqb}
-use Rattle.mum_base.specs.declared.number.SessionId.{SessionId}
-use Rattle.mum_frame.specs.declared.kind.TheConstants.{VERSION, PING, AUTHENTICATE}
-use Rattle.mum_base.specs.declared.outcome.Reason.TheVariants.{Gone}
-use Rattle.mum_session.specs.declared.session.Stage.{Stage}
-use Rattle.mum_session.specs.declared.session.Stage.TheVariants.{BeforeLogin, LoggedIn, Rejected}
-use Rattle.mum_session.specs.Action.{action, ignore, taken_before_login}
-use Rattle.mum_session.specs.Machine.{Machine, is_rejected, session_of}
+use Rattle.mum_session.proofs.Common.{◌≡◌, ◌==◌, ◌||◌, ℕ, eqb, Bool, true, false, List, Option, Some, None, refl, sym, list_any, eqb-false, ne_eqb, SessionId, VERSION, PING, AUTHENTICATE, Gone, Stage, BeforeLogin, LoggedIn, Rejected, action, ignore, taken_before_login, Machine, is_rejected, session_of}
 
 first_false : (a b : Bool) → (a || b) ≡ false → a ≡ false
 first_false true b h = h

@@ -1,26 +1,22 @@
 -- What a frame asks for, by its type.
 use Rattle.std.specs.Prelude.{ℕ, ◌==◌, ◌&&◌, Bool, true, false, List, [], ◌∷◌, Option, Some, None, Result, Ok, Err, if◌then◌else◌}
 use Rattle.std.specs.List.{list_any}
-use Rattle.mum_base.specs.declared.number.SessionId.{SessionId}
-use Rattle.mum_fields.specs.declared.message.MessageFault.{MessageFault}
-use Rattle.mum_fields.specs.Message.{or_else}
-use Rattle.mum_fields.specs.Table.{Table, Values, layout, decoded, items}
-use Rattle.mum_fields.specs.Written.{written}
+use Rattle.mum_base.specs.declared.{number.SessionId.SessionId, outcome.Reason.Reason}
+use Rattle.mum_base.specs.Codes.{reason_code}
+use Rattle.mum_base.specs.declared.outcome.Reason.TheVariants.{Gone, Malformed, NotLoggedIn, NotRead}
 use Rattle.mum_frame.specs.Frame.{spelling_of}
 use Rattle.mum_frame.specs.declared.kind.TheConstants.{UDP_TUNNEL, VERSION, PING, AUTHENTICATE, CHANNEL_REMOVE, CHANNEL_STATE, USER_REMOVE, USER_STATE, TEXT_MESSAGE, ACL, VOICE_TARGET, PERMISSION_QUERY}
+use Rattle.mum_fields.specs.declared.message.MessageFault.{MessageFault}
+use Rattle.mum_fields.specs.{Message.or_else, Written.written}
+use Rattle.mum_fields.specs.Table.{Table, Values, layout, decoded, items}
 use Rattle.mum_msg_state.specs.Messages.{version, ping}
-use Rattle.mum_base.specs.Codes.{reason_code}
-use Rattle.mum_base.specs.declared.outcome.Reason.{Reason}
-use Rattle.mum_base.specs.declared.outcome.Reason.TheVariants.{Gone, Malformed, NotLoggedIn, NotRead}
-use Rattle.mum_base.specs.declared.outcome.Reason.TheVariants as reasons
-use Rattle.mum_session.specs.declared.action.Action.{Action}
-use Rattle.mum_session.specs.declared.action.TheConstants.{BAN_LIST}
-use Rattle.mum_session.specs.declared.action.Action.TheVariants.{Ask, Voice, Echo, Keep, Ignore, Bans}
-use Rattle.mum_session.specs.declared.command.Asked.{Asked}
+use Rattle.mum_session.specs.declared.{action.Action.Action, action.TheConstants.BAN_LIST, command.Asked.Asked}
 use Rattle.mum_session.specs.declared.heard.Heard.{Heard}
-use Rattle.mum_session.specs.declared.heard.Heard.TheVariants as heard
+use Rattle.mum_session.specs.declared.action.Action.TheVariants.{Ask, Voice, Echo, Keep, Ignore, Bans}
 use Rattle.mum_session.specs.Heard.{login_heard, command_heard}
 use Rattle.mum_session.specs.Machine.{Machine, session_of, is_rejected}
+use Rattle.mum_base.specs.declared.outcome.Reason.TheVariants as reasons
+use Rattle.mum_session.specs.declared.heard.Heard.TheVariants as heard
 
 -- the values of a message's fields, or what is wrong with its payload
 abbrev pub Decoded : {M : Type 0} → Table M → Type 0
@@ -56,7 +52,7 @@ command_action machine (heard.Message what) =
 command_action machine heard.Malformed = ignore Malformed
 command_action machine heard.TooLong = ignore reasons.TooLong
 
--- a login, with the number of the version that was told before
+-- a login, with the number of the version that was sent before
 abbrev pub login_action : Machine → List ℕ → Action
 login_action machine payload = command_action machine (login_heard machine.version payload)
 
@@ -66,7 +62,9 @@ tree_or_user_action machine kind payload = command_action machine (command_heard
 
 -- the types of the commands that come after a login
 abbrev pub commands_after_login : List ℕ
-commands_after_login = CHANNEL_REMOVE ∷ CHANNEL_STATE ∷ USER_REMOVE ∷ USER_STATE ∷ TEXT_MESSAGE ∷ ACL ∷ VOICE_TARGET ∷ PERMISSION_QUERY ∷ []
+commands_after_login =
+    CHANNEL_REMOVE ∷ CHANNEL_STATE ∷ USER_REMOVE ∷ USER_STATE ∷ TEXT_MESSAGE ∷ ACL ∷ VOICE_TARGET ∷ PERMISSION_QUERY
+    ∷ []
 
 -- the types that are taken before a login
 abbrev pub taken_before_login : List ℕ
@@ -82,7 +80,8 @@ bans_action machine kind payload =
 -- what a type asks for that is read of who is logged in alone, or of nobody
 abbrev pub other_action : Machine → ℕ → List ℕ → Action
 other_action machine kind payload =
-    if list_any (λ known. known == kind) commands_after_login then after_login (session_of machine.stage) (tree_or_user_action machine kind payload)
+    if list_any (λ known. known == kind) commands_after_login then after_login (session_of machine.stage)
+    (tree_or_user_action machine kind payload)
     else bans_action machine kind payload
 
 -- what a frame of this type and payload asks for; after a rejected login none asks for anything
@@ -97,7 +96,7 @@ action machine kind payload =
 
 -- ---- the machine after a frame
 
--- whether a reply is awaited behind it
+-- whether a reply is awaited after it
 abbrev pub asks : Action → Bool
 asks (Ask command) = true
 asks (Bans payload) = true
@@ -114,6 +113,7 @@ kept_version machine kind payload =
     else if kind == VERSION then version_after machine.version (decoded version payload)
     else machine.version
 
--- a reply is awaited behind a command, and behind a list of bans
+-- a reply is awaited after a command, and after a list of bans
 unfoldable pub after_frame : Machine → ℕ → List ℕ → Machine
-after_frame machine kind payload = record machine { version = kept_version machine kind payload; awaits = asks (action machine kind payload) }
+after_frame machine kind payload =
+    record machine { version = kept_version machine kind payload; awaits = asks (action machine kind payload) }

@@ -1,7 +1,6 @@
 -- What the machine knows of its connection.
 use Rattle.std.specs.Prelude.{ℕ, Bool, true, false, Option, Some, None}
-use Rattle.mum_base.specs.declared.number.SessionId.{SessionId}
-use Rattle.mum_base.specs.declared.reply.ReplyEnd.{ReplyEnd}
+use Rattle.mum_base.specs.declared.{number.SessionId.SessionId, reply.ReplyEnd.ReplyEnd}
 use Rattle.mum_base.specs.declared.reply.ReplyEnd.TheVariants.{Joined, Decided, Rejected}
 use Rattle.mum_session.specs.declared.session.Stage.{Stage}
 use Rattle.mum_session.specs.declared.session.Stage.TheVariants as stages
@@ -27,11 +26,12 @@ is_rejected stages.BeforeLogin = false
 is_rejected (stages.LoggedIn session) = false
 is_rejected stages.Rejected = true
 
--- a connection that told this much and waits for no reply; no list of bans is taken from it
+-- a connection that sent this much and waits for no reply; no list of bans is taken from it
 abbrev pub resumed : ℕ → ℕ → Option ℕ → Stage → Machine
-resumed connection worker version stage = record { connection = connection; worker = worker; version = version; stage = stage; awaits = false; bans = false }
+resumed connection worker version stage =
+    record { connection = connection; worker = worker; version = version; stage = stage; awaits = false; bans = false }
 
--- a connection that told nothing yet
+-- a connection that sent nothing yet
 abbrev pub fresh : ℕ → ℕ → Machine
 fresh connection worker = resumed connection worker None stages.BeforeLogin
 

@@ -2,17 +2,14 @@
 use Rattle.std.specs.Prelude.{◌≡◌, ℕ, nat_le, List, [], length, Option, Some, if◌then◌else◌}
 use Rattle.std.specs.Option.{option_map_or}
 use Rattle.mum_base.specs.declared.number.{AccountId.AccountId, SessionId.SessionId, Slot.Slot}
-use Rattle.mum_base.specs.declared.reply.Mark.{Mark}
-use Rattle.mum_base.specs.declared.reply.Mark.TheVariants as marks
-use Rattle.mum_base.specs.declared.reply.ReplyEnd.{ReplyEnd}
-use Rattle.mum_base.specs.declared.reply.ReplyEnd.TheVariants as ends
-use Rattle.mum_frame.specs.declared.frame.Frame.{Frame}
-use Rattle.mum_frame.specs.declared.frame.TheConstants.{PAYLOAD_LIMIT}
+use Rattle.mum_base.specs.declared.reply.{Mark.Mark, ReplyEnd.ReplyEnd}
+use Rattle.mum_frame.specs.declared.frame.{Frame.Frame, TheConstants.PAYLOAD_LIMIT}
 use Rattle.mum_frame.specs.Frame.{frame_spelling}
-use Rattle.mum_state.specs.declared.edit.Edit.TheVariants.{Join}
-use Rattle.mum_state.specs.declared.verdict.Verdict.{Verdict}
+use Rattle.mum_state.specs.declared.{edit.Edit.TheVariants.Join, verdict.Verdict.Verdict}
 use Rattle.mum_state.specs.declared.verdict.Verdict.TheVariants.{Accepted, Lacks, Refused, Rejected, Answer, Ignored}
 use Rattle.mum_rules_tree.specs.Denial.{denial}
+use Rattle.mum_base.specs.declared.reply.Mark.TheVariants as marks
+use Rattle.mum_base.specs.declared.reply.ReplyEnd.TheVariants as ends
 
 -- the outcome, where an accepted edit gets this revision
 abbrev pub mark : ℕ → Verdict → Mark
@@ -32,7 +29,8 @@ reply_end others = ends.Decided
 -- the verdict accepts a login as this session in this slot
 abbrev pub JoinsAs : SessionId → Slot → Verdict → Type 0
 JoinsAs session slot verdict =
-    (name : List ℕ) × (account : Option AccountId) × (tokens : List (List ℕ)) × (verdict ≡ Accepted (Join session slot name account tokens))
+    (name : List ℕ) × (account : Option AccountId) × (tokens : List (List ℕ))
+    × (verdict ≡ Accepted (Join session slot name account tokens))
 
 -- the frame that answers a query, or reports a denial
 abbrev pub frame_of : Option SessionId → Verdict → Option Frame

@@ -1,19 +1,15 @@
 -- What is decided of a command.
 use Rattle.std.specs.Prelude.{List, [], ◌∷◌, Option, Some, None, unwrap_or}
-use Rattle.mum_base.specs.declared.number.SessionId.{SessionId}
-use Rattle.mum_state.specs.declared.edit.Edit.{Edit}
-use Rattle.mum_state.specs.declared.verdict.Verdict.{Verdict}
+use Rattle.mum_base.specs.declared.{number.SessionId.SessionId, outcome.Reason.Reason}
+use Rattle.mum_base.specs.declared.outcome.Reason.TheVariants.{Gone, NotLoggedIn}
+use Rattle.mum_base.specs.Codes.{reason_code}
+use Rattle.mum_state.specs.declared.{edit.Edit.Edit, verdict.Verdict.Verdict}
 use Rattle.mum_state.specs.declared.verdict.Verdict.TheVariants.{Accepted, Ignored}
 use Rattle.mum_state.specs.State.{StateValue}
-use Rattle.mum_base.specs.Codes.{reason_code}
-use Rattle.mum_base.specs.declared.outcome.Reason.{Reason}
-use Rattle.mum_base.specs.declared.outcome.Reason.TheVariants.{Gone, NotLoggedIn}
-use Rattle.mum_rules_tree.specs.Decision.{case_of, first_standing}
-use Rattle.mum_rules_tree.specs.Reasons.{takes_no_edits}
+use Rattle.mum_rules_tree.specs.{Decision.case_of, Decision.first_standing, Reasons.takes_no_edits}
 use Rattle.mum_rules_tree.specs.Verdict.{tree_verdict}
 use Rattle.mum_rules_user.specs.Verdict.{user_verdict}
-use Rattle.mum_session.specs.declared.command.Asked.{Asked}
-use Rattle.mum_session.specs.declared.command.Asked.TheVariants.{Tree, User}
+use Rattle.mum_session.specs.declared.command.Asked.{Asked, TheVariants.Tree, TheVariants.User}
 
 -- why a command on channels is ignored that comes of a connection without a session
 abbrev pub reason_for_nobody : StateValue → Reason

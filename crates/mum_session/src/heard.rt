@@ -1,5 +1,5 @@
 //! The payloads of commands, each first surveyed without memory: a malformed one is not decoded, and
-//! neither is one whose message is too long as this server spells it.
+//! neither is one whose message is too long as this server encodes it.
 
 ghost use Rattle.std.specs.Prelude.{◌≡◌, IfOk};
 ghost use Rattle.mum_fields.specs.Table.{decoded, parts};
@@ -25,11 +25,11 @@ pub enum Heard<T> {
     Message(T),
     /// It is no message.
     Malformed,
-    /// The message is longer than a command may be, as this server spells it.
+    /// The message is longer than a command may be, as this server encodes it.
     TooLong,
 }
 
-/// A message that was decoded. What is wrong with a malformed payload is told to nobody.
+// A message that was decoded. What is wrong with a malformed payload is reported to nobody.
 fn well_formed<M: Drop>(decoded: Result<M, MessageFault>) -> Result<Option<M>, OutOfMemory>
     ensures { result ≡ well_formed decoded }
 {
@@ -48,7 +48,7 @@ pub fn message_in<M: Message>(alloc: Global, payload: &[u8]) -> Result<Option<M>
     well_formed(M::decode(alloc, payload))
 }
 
-/// The message of a command. A malformed payload and a message that is too long take no memory.
+// The message of a command. A malformed payload and a message that is too long take no memory.
 fn read<M: Message>(alloc: Global, payload: &[u8]) -> Result<Heard<M>, OutOfMemory>
     ensures { IfOk result (λ heard. heard_map (parts M.rows) heard ≡ read M.rows payload.now) }
 {
@@ -63,7 +63,7 @@ fn read<M: Message>(alloc: Global, payload: &[u8]) -> Result<Heard<M>, OutOfMemo
     }
 }
 
-/// A login, with the number of the version that was told before.
+/// A login, with the number of the version that was sent before.
 #[tactic(auto, using(mum_msg_state::specs::Parts::authenticate_back))]
 pub fn login(
     alloc: Global,
@@ -81,7 +81,7 @@ pub fn login(
     }
 }
 
-/// The command that a message of this type is.
+// The command that a message of this type is.
 fn read_asked<M: Asks>(alloc: Global, payload: &[u8]) -> Result<Heard<Asked>, OutOfMemory>
     ensures { IfOk result (λ heard. heard ≡ heard_map M.asked_by (read M.table payload.now)) }
 {

@@ -57,7 +57,7 @@ impl Stage {
     }
 }
 
-/// What a connection told, and whether it waits for a reply.
+/// What a connection sent, and whether it waits for a reply.
 #[derive(Drop)]
 pub struct Session {
     connection: u32,
@@ -83,7 +83,7 @@ fn ignored(reason: Reason) -> Action
     Action::Ignore { why: reason.code() }
 }
 
-/// A Ping is answered by a Ping of its timestamp alone.
+// A Ping is answered by a Ping of its timestamp alone.
 fn echo(alloc: Global, payload: &[u8]) -> Result<Action, OutOfMemory>
     ensures { IfOk result (λ a. a ≡ ping_action (decoded ping payload.now)) }
 {
@@ -95,7 +95,7 @@ fn echo(alloc: Global, payload: &[u8]) -> Result<Action, OutOfMemory>
     Ok(Action::Echo(frame))
 }
 
-/// Whether a type is that of a command which comes after a login.
+// Whether a type is that of a command which comes after a login.
 fn comes_after_login(kind: u16) -> bool
     ensures { result ≡ list_any (λ known. known == kind) commands_after_login }
 {
@@ -113,14 +113,14 @@ fn comes_after_login(kind: u16) -> bool
 }
 
 impl Session {
-    /// A connection that told nothing yet, by its number and that of its worker.
+    /// A connection that sent nothing yet, by its number and that of its worker.
     pub fn new(connection: u32, worker: u8) -> Session
         ensures { result ≡ fresh connection worker }
     {
         Session::resumed(connection, worker, None, Stage::BeforeLogin)
     }
 
-    /// A connection that told nothing yet, as [`Session::new`] makes it, but that its lists of bans (BanList) are
+    /// A connection that sent nothing yet, as [`Session::new`] makes it, but that its lists of bans (BanList) are
     /// taken once it is logged in: each asks for a reply. Without that, a BanList is not read.
     pub fn with_bans(connection: u32, worker: u8) -> Session
         ensures { result ≡ fresh_with_bans connection worker }
@@ -166,8 +166,8 @@ impl Session {
     }
 
     /// What a frame asks for. Version and Ping are taken before a login; all other types but
-    /// Authenticate are ignored then, and their payloads are not looked at. Want of memory leaves the
-    /// connection as it was.
+    /// Authenticate are ignored then, and their payloads are not looked at. Where memory runs out, this leaves
+    /// the connection as it was.
     pub fn frame(&mut self, alloc: Global, frame: Frame) -> Result<Action, OutOfMemory>
         requires { self.old.awaits ≡ false }
         ensures action { IfOk result (λ a. a ≡ action self.old frame.kind frame.payload) }
@@ -186,7 +186,7 @@ impl Session {
         Ok(action)
     }
 
-    /// The number of a Version is kept, where it has one.
+    // The number of a Version is kept, where it has one.
     fn keep(&mut self, alloc: Global, payload: &[u8]) -> Result<Action, OutOfMemory>
         ensures action { IfOk result (λ a. a ≡ version_action (decoded version payload.now)) }
         ensures after { OnOk result (self.new ≡ record self.old {
@@ -201,7 +201,7 @@ impl Session {
         Ok(Action::Keep)
     }
 
-    /// What a frame that is no Version asks for, of a connection that was not rejected.
+    // What a frame that is no Version asks for, of a connection that was not rejected.
     #[tactic(auto, unfolding(crate::specs::Action::action))]
     fn action_of(&self, alloc: Global, kind: u16, payload: Octets) -> Result<Action, OutOfMemory>
         requires stays { is_rejected self.now.stage ≡ false }
@@ -216,7 +216,7 @@ impl Session {
         }
     }
 
-    /// A voice packet is heard of who is logged in.
+    // A voice packet is heard of who is logged in.
     fn voice(&self, payload: Octets) -> Action
         ensures { result ≡ voice_action (session_of self.now.stage) payload }
     {
@@ -226,7 +226,7 @@ impl Session {
         }
     }
 
-    /// A login, with the number of the version that was told before.
+    // A login, with the number of the version that was sent before.
     fn log_in(&self, alloc: Global, payload: &[u8]) -> Result<Action, OutOfMemory>
         ensures { IfOk result (λ a. a ≡ login_action self.now payload.now) }
     {
@@ -234,7 +234,7 @@ impl Session {
         Ok(self.ask(heard))
     }
 
-    /// A type that is read of who is logged in alone, or of nobody.
+    // A type that is read of who is logged in alone, or of nobody.
     fn other(&self, alloc: Global, kind: u16, payload: Octets) -> Result<Action, OutOfMemory>
         ensures { IfOk result (λ a. a ≡ other_action self.now kind payload) }
     {
@@ -245,7 +245,7 @@ impl Session {
         }
     }
 
-    /// A command of who is logged in.
+    // A command of who is logged in.
     fn later(&self, alloc: Global, kind: u16, payload: &[u8]) -> Result<Action, OutOfMemory>
         ensures { IfOk result (λ a. a ≡ after_login (session_of self.now.stage)
             (tree_or_user_action self.now kind payload.now)) }
@@ -257,7 +257,7 @@ impl Session {
         Ok(self.ask(heard))
     }
 
-    /// A list of bans is handed on as it came, of who is logged in; any other type is not read.
+    // A list of bans is handed on as it came, of who is logged in; any other type is not read.
     fn list_of_bans(&self, kind: u16, payload: Octets) -> Action
         ensures { result ≡ bans_action self.now kind payload }
     {
@@ -270,7 +270,7 @@ impl Session {
         }
     }
 
-    /// What a command asks for.
+    // What a command asks for.
     fn ask(&self, heard: Heard<Asked>) -> Action
         ensures { result ≡ command_action self.now heard }
     {

@@ -1,4 +1,5 @@
 -- A keeper over a file may go to another thread. The parts of a connection are too many for a search, so they are named.
+use denote.Param.Send.{IsSend, sendable, recorded_send, struct_send, view_send}
 use Rattle.mum_base.proofs.items.Text.TheSendSync as text
 use Rattle.mum_base.specs.contracts.items.Text
 use Rattle.mum_keeper.proofs.change.Change.TheSendSync as change
@@ -25,7 +26,6 @@ use Rattle.std.proofs.Crossing as heap
 use Rattle.std.specs.contracts.alloc.Global
 use Rattle.std.specs.contracts.impls.GlobalAllocator.TheImpl as global
 use Rattle.std.specs.contracts.option.Option
-use denote.Param.Send.{IsSend, sendable, recorded_send, struct_send, view_send}
 use denote.RattleType
 use denote.Struct.Declared
 

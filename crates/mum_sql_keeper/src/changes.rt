@@ -61,7 +61,7 @@ fn make_each<S: Alter>(file: &mut Connection<S>, changes: &[Change]) -> Result<(
     Ok(())
 }
 
-/// Makes all these changes in one transaction. Where it fails, the transaction may still be open.
+// Makes all these changes in one transaction. Where it fails, the transaction may still be open.
 pub(crate) fn make_all<S: Alter>(
     file: &mut Connection<S>,
     changes: &[Change],
@@ -99,7 +99,7 @@ fn undo_of<S: Alter>(file: &mut Connection<S>, change: &Change) -> Result<Change
     }
 }
 
-/// Adds the changes that take back what these changes would do now.
+// Adds the changes that take back what these changes would do now.
 pub(crate) fn add_undo<S: Alter>(
     file: &mut Connection<S>,
     undo: &mut Vec<Change>,

@@ -9,7 +9,7 @@ use mum_keeper::KeepEnd;
 use sqlite::{Error, ErrorCode};
 use std::marker::Model;
 
-/// How many calls failed. That rows are not kept, and that they are again, is written to the standard error stream.
+// How many calls failed. That rows are not kept, and that they are again, is written to the standard error stream.
 #[derive(Drop)]
 pub(crate) struct Failures {
     rt: HostRuntime,
@@ -41,7 +41,7 @@ fn is_out_of_memory(error: &Error) -> bool
 }
 
 impl Failures {
-    /// None yet.
+    // None yet.
     pub(crate) fn new(rt: HostRuntime) -> Failures
         ensures { result ≡ 0 }
     {
@@ -52,7 +52,7 @@ impl Failures {
         }
     }
 
-    /// Counts a failure, and reports it where the call before did not fail. Where memory ran out it does neither.
+    // Counts a failure, and reports it where the call before did not fail. Where memory ran out it does neither.
     pub(crate) fn fail(&mut self, error: Error) -> KeepEnd
         ensures counts { KeepCounts result self.old self.new }
         ensures not_kept { result ≢ KeepEnd.Kept }
@@ -69,7 +69,7 @@ impl Failures {
         KeepEnd::Failed
     }
 
-    /// Reports that rows are kept again, where it was reported that they are not.
+    // Reports that rows are kept again, where it was reported that they are not.
     pub(crate) fn succeed(&mut self)
         ensures { self.new ≡ self.old }
     {

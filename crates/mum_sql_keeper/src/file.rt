@@ -5,7 +5,7 @@ use sqlite::{Alter, Connection, Error, ErrorCode, FileFrom, FileStore, Row, Star
 use sqlite_disk::Disk;
 use std::mem::drop;
 
-/// A file that is open, of which is supposed what `S` says.
+// A file that is open, of which is supposed what `S` says.
 pub(crate) type OpenFile<S> = Connection<FileStore<FileFrom<S>>>;
 
 const CHANNELS: &str = "CREATE TABLE channels (
@@ -45,7 +45,7 @@ fn close<D: Disk + Drop>(file: Connection<FileStore<D>>) -> Result<(), Error> {
     file.close()
 }
 
-/// Runs a statement that gives no rows.
+// Runs a statement that gives no rows.
 pub(crate) fn run<S: Alter>(
     file: &mut Connection<S>,
     sql: &str,
@@ -54,7 +54,7 @@ pub(crate) fn run<S: Alter>(
     file.execute(sql, values)
 }
 
-/// All rows that a query gives.
+// All rows that a query gives.
 pub(crate) fn query<S: Alter>(
     file: &mut Connection<S>,
     sql: &str,
@@ -70,7 +70,7 @@ fn first_number(rows: &[Row]) -> Result<u32, Error> {
     }
 }
 
-/// The first number that a query gives.
+// The first number that a query gives.
 pub(crate) fn number<S: Alter>(
     file: &mut Connection<S>,
     sql: &str,
@@ -102,15 +102,15 @@ fn prepare<S: Alter>(file: &mut Connection<S>, may_be_new: bool) -> Result<usize
     Err(Error::SqliteFailure(ErrorCode::NotADatabase))
 }
 
-/// The error of a file that is not open.
+// The error of a file that is not open.
 pub(crate) const NOT_OPEN: Error = Error::SqliteFailure(ErrorCode::CannotOpen);
 
-/// Lets the file go that is open, and writes nothing.
+// Lets the file go that is open, and writes nothing.
 pub(crate) fn let_go<S: Alter + Drop>(open: &mut Option<Connection<S>>) {
     drop(open.take());
 }
 
-/// Copies the log into the file that is open, and closes both.
+// Copies the log into the file that is open, and closes both.
 pub(crate) fn shut<S: Start>(open: &mut Option<OpenFile<S>>) -> Result<(), Error> {
     match open.take() {
         Some(file) => close(file),
@@ -144,8 +144,8 @@ fn hold<S: Alter + Drop>(
     }
 }
 
-/// Opens the file at a path, with its tables, in place of what is open. Where it may be new, they are made if there are
-/// none. Where it is refused, nothing is open.
+// Opens the file at a path, with its tables, in place of what is open. Where it may be new, they are made if there are
+// none. Where it is refused, nothing is open.
 pub(crate) fn open_file<S: Start>(
     rt: &HostRuntime,
     path: &str,

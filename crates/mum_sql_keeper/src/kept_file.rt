@@ -80,8 +80,8 @@ fn make_at<S: Start>(
     make_or_close(open, undo, changes)
 }
 
-/// Makes these changes in one transaction, in the file at a path, if it has one. After the changes of `undo` the rows
-/// are those before changes that failed, whether these were made or not.
+// Makes these changes in one transaction, in the file at a path, if it has one. After the changes of `undo` the rows
+// are those before changes that failed, whether these were made or not.
 pub(crate) fn make_changes<S: Start>(
     rt: &HostRuntime,
     path: &Option<Text>,
@@ -101,7 +101,7 @@ pub(crate) fn make_changes<S: Start>(
     }
 }
 
-/// Adds all rows of the file that is open, in order.
+// Adds all rows of the file that is open, in order.
 pub(crate) fn read_from<S: Alter>(
     open: &mut Option<Connection<S>>,
     rows: &mut KeptRows,
@@ -112,8 +112,8 @@ pub(crate) fn read_from<S: Alter>(
     }
 }
 
-/// Opens the file at a path, with its tables, which are made if there are none. It is the path then at which a file was
-/// opened.
+// Opens the file at a path, with its tables, which are made if there are none. It is the path then at which a file was
+// opened.
 pub(crate) fn open_at<S: Start>(
     rt: &HostRuntime,
     path: &str,

@@ -31,8 +31,8 @@ fn remove_if_empty(rt: &HostRuntime, log: &str) {
     }
 }
 
-/// Opens the file at a path, with its tables, in place of what is open. Where it may be new, they are made if there are
-/// none. Where it is refused, nothing is open, and no empty log is left beside it that was not there.
+// Opens the file at a path, with its tables, in place of what is open. Where it may be new, they are made if there are
+// none. Where it is refused, nothing is open, and no empty log is left beside it that was not there.
 pub(crate) fn open_beside_log<S: Start>(
     rt: &HostRuntime,
     path: &str,

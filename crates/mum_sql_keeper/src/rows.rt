@@ -85,7 +85,7 @@ fn read_links<S: Alter>(
     add_links(links, rows.as_slice())
 }
 
-/// Adds all rows of a file, in order.
+// Adds all rows of a file, in order.
 pub(crate) fn read_rows<S: Alter>(
     file: &mut Connection<S>,
     rows: &mut KeptRows,
@@ -103,7 +103,7 @@ fn change_to(id: ChannelId, rows: &[Row]) -> Result<Change, Error> {
     Ok(Change::Put(channel))
 }
 
-/// The change after which a channel has the row again that it has now, or none.
+// The change after which a channel has the row again that it has now, or none.
 pub(crate) fn channel_undo<S: Alter>(
     file: &mut Connection<S>,
     id: ChannelId,

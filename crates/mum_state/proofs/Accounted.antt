@@ -1,11 +1,5 @@
 -- An account more.
-use Rattle.std.proofs.Common.{◌≡◌, ℕ, suc, ◌<◌, ◌≤◌, ◌↔◌, ◌&&◌, not, nat_lt, Bool, true, length, arith}
-use Rattle.std.specs.List.{list_any}
-use Rattle.std.proofs.lemmas.Bool.{and_from, and_parts, lt-ltb, ltb-true, not-true, not_from_false}
-use Rattle.mum_state.specs.declared.account.Account.{Account}
-use Rattle.mum_state.specs.declared.account.TheConstants.{ACCOUNT_LIMIT}
-use Rattle.mum_state.specs.Proper.{IsProper, is_short}
-use Rattle.mum_state.specs.State.{StateValue, has_account, is_named, with_account}
+use Rattle.mum_state.proofs.Common.{◌≡◌, ℕ, suc, ◌<◌, ◌≤◌, ◌↔◌, ◌&&◌, not, nat_lt, Bool, true, length, arith, list_any, and_from, and_parts, lt-ltb, ltb-true, not-true, not_from_false, Account, ACCOUNT_LIMIT, IsProper, is_short, StateValue, has_account, is_named, with_account}
 use Rattle.mum_state.proofs.Orderly.{apart_with, length_with, rises_with, short_of, short_with, unnamed_of, unnumbered_of}
 
 -- nobody has its number or its name, the name is short, and there is room

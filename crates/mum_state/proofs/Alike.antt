@@ -1,15 +1,6 @@
 -- What may be done in a channel depends on the policies of the channels on the way there, and on no other.
-use Rattle.std.proofs.Common.{◌≡◌, ℕ, zero, suc, ◌+◌, not, Bool, List, [], ◌∷◌, map, reverse, take, refl, sym, ap, subst, ◌∙◌, Option, Some, None, if◌then◌else◌}
-use Rattle.mum_base.specs.declared.number.ChannelId.{ChannelId}
-use Rattle.mum_base.specs.declared.number.TheConstants.AccountId.{SUPER_USER}
-use Rattle.mum_policy.specs.declared.policy.AclEntry.{AclEntry}
-use Rattle.mum_policy.specs.declared.policy.ChannelPolicy.{ChannelPolicy}
-use Rattle.mum_policy.specs.declared.policy.Whom.{Whom}
-use Rattle.mum_policy.specs.declared.policy.Whom.TheVariants.{Account, Group}
-use Rattle.mum_policy.specs.Member.{Actor, PolicyMap, definitions, is_listed, meets, member, upwards}
-use Rattle.mum_policy.specs.Name.{Asks, understood}
-use Rattle.mum_policy.specs.Walk.{after_channel, after_entries, along, entering, full_set, goes_on, is_account, is_asked, matches, names, on_root, perm, set_of, walk_start}
-use Rattle.mum_tree.proofs.Upward.{reverse-cons}
+use Rattle.mum_state.proofs.Common.{◌≡◌, ℕ, zero, suc, ◌+◌, not, Bool, List, [], ◌∷◌, map, reverse, take, refl, sym, ap, subst, ◌∙◌, Option, Some, None, if◌then◌else◌, ChannelId, SUPER_USER, AclEntry, ChannelPolicy, Whom, Group, Actor, PolicyMap, definitions, is_listed, meets, member, upwards, Asks, understood, after_channel, after_entries, along, entering, full_set, goes_on, is_account, is_asked, matches, names, on_root, perm, set_of, walk_start, reverse-cons}
+use Rattle.mum_policy.specs.declared.policy.Whom.TheVariants.{Account}
 use Rattle.mum_state.proofs.Each.{Each, each_append}
 
 -- how far a walk has come

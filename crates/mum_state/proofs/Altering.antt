@@ -1,25 +1,6 @@
 -- A session of which several parts become others.
-use Rattle.std.proofs.Common.{◌≡◌, ◌↔◌, ◌&&◌, ◌++◌, not, Bool, true, false, cond, List, [], ◌∷◌, refl, sym, ◌∙◌, is_none, unwrap_or}
-use Rattle.std.specs.List.{list_all, list_any}
-use Rattle.std.proofs.lemmas.Bool.{and_from, and_parts}
-use Rattle.std.proofs.lemmas.List.Folds.{list_all-append}
-use Rattle.mum_base.specs.declared.number.ChannelId.{ChannelId}
-use Rattle.mum_base.specs.declared.number.SessionId.{SessionId}
-use Rattle.mum_tree.specs.Rows.{is_there}
-use Rattle.mum_users.specs.declared.listening.ListenerPair.{ListenerPair}
-use Rattle.mum_users.specs.declared.user.User.{User}
-use Rattle.mum_users.specs.Edit.{UserEdit, changed_user, edit_fault, edited, staying, with_channels}
-use Rattle.mum_base.specs.Channels.{is_among}
-use Rattle.mum_users.specs.Listeners.{pair_below, with_pair}
-use Rattle.mum_users.specs.State.{are_tokens, has_number, is_context, is_of_session, is_pair}
-use Rattle.mum_users.proofs.Refusals.{edits_where_proper_lem}
-use Rattle.mum_state.specs.Fits.{holds_of_given}
-use Rattle.mum_state.specs.Named.{given}
-use Rattle.mum_state.specs.Proper.{IsProper, is_short, is_sound_user, is_text}
-use Rattle.mum_state.specs.State.{StateValue}
-use Rattle.mum_state.proofs.Givens.{holds_of_list, is_none_of, none_is, unwrap_back, unwrap_good}
-use Rattle.mum_state.proofs.Listed.{all_changed, all_filter, changed_passes}
-use Rattle.mum_state.proofs.Parted.{with_roster}
+use Rattle.mum_state.proofs.Common.{◌≡◌, ◌↔◌, ◌&&◌, ◌++◌, not, Bool, true, false, cond, List, [], ◌∷◌, refl, sym, ◌∙◌, is_none, unwrap_or, list_all, list_any, and_from, and_parts, list_all-append, ChannelId, SessionId, is_there, ListenerPair, User, UserEdit, changed_user, edit_fault, edited, staying, with_channels, is_among, pair_below, with_pair, are_tokens, has_number, is_context, is_of_session, is_pair, edits_where_proper_lem, holds_of_given, given, IsProper, is_short, is_sound_user, is_text, StateValue}
+use Rattle.mum_state.proofs.{Givens.holds_of_list, Givens.is_none_of, Givens.none_is, Givens.unwrap_back, Givens.unwrap_good, Listed.all_changed, Listed.all_filter, Listed.changed_passes, Parted.with_roster}
 
 -- ---- its row
 
@@ -66,7 +47,7 @@ all_with_channels there session left (channel ∷ channels) pairs named all =
 
 -- ---- both ways
 
--- nothing stands against the change, and its texts are as they may be
+-- nothing forbids the change, and its texts are as they may be
 abbrev pub may_alter : StateValue → SessionId → UserEdit → Bool
 may_alter state session change =
     is_none (edit_fault state.roster session change) && holds_of_given is_text change.comment && holds_of_given is_context change.context
@@ -102,7 +83,7 @@ alter_from state session change proper here after =
     comment)
     context
 
--- nothing stands against a change of a session exactly where the state after it is proper
+-- nothing forbids a change of a session exactly where the state after it is proper
 pub alters_both_ways : (state : StateValue) (session : SessionId) (change : UserEdit) → IsProper state → list_any (has_number session) state.roster.sessions ≡ true
     → list_all (is_there state.tree.channels) (given change.channel ++ change.listen ++ change.unlisten) ≡ true
     → (may_alter state session change ≡ true) ↔ IsProper (record state { roster = edited state.roster session change })

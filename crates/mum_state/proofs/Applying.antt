@@ -1,28 +1,6 @@
 -- The stages of an edit, as the code takes them, leave what the edit leaves.
-use Rattle.std.proofs.Common.{◌≡◌, ℕ, zero, suc, ◌+◌, ◌<◌, ◌≤◌, ◌==◌, ◌&&◌, ◌||◌, not, Bool, true, false, cond, List, [], ◌∷◌, get_or, map, refl, sym, ap, ◌∙◌, arith, Option, Some, None}
-use Rattle.std.specs.List.{All, list_any}
-use Rattle.std.proofs.lemmas.Bool.{eq-eqb, ne_eqb}
-use Rattle.mum_base.specs.declared.number.ChannelId.{ChannelId}
-use Rattle.mum_users.specs.declared.user.User.{User}
-use Rattle.mum_users.specs.Proper.{SlotsRise}
-use Rattle.mum_state.specs.declared.edit.Edit.{Edit}
-use Rattle.mum_state.specs.declared.edit.Edit.TheVariants.{MakeChannel}
-use Rattle.mum_state.specs.declared.renewed.Renewed.{Renewed}
-use Rattle.mum_state.specs.Applied.{applied}
-use Rattle.mum_state.specs.Counts.{counts_after, raised_slots, raised_where, renews}
-use Rattle.mum_state.specs.Emptied.{empties, has_member, is_emptied, without_emptied}
-use Rattle.mum_state.specs.Fits.{fits}
-use Rattle.mum_state.specs.Followed.{counted, is_left_empty, left_by, with_left_closed}
-use Rattle.mum_state.specs.Kinds.{changes_paths, changes_routes, is_of_configuration, sets_policy}
-use Rattle.mum_state.specs.Proper.{IsProper}
-use Rattle.mum_state.specs.Renewed.{heard_again, is_renewed_slot}
-use Rattle.mum_state.specs.Set.{set_by}
-use Rattle.mum_state.specs.State.{Counts, StateValue}
-use Rattle.mum_state.specs.Suppression.{heard_anew, is_renewed, is_set_anew, with_clearing, with_suppression}
-use Rattle.mum_state.proofs.Keeping.{fit_proper}
-use Rattle.mum_state.proofs.Leftover.{IsClosed, alone_heard, closed_by, left_alone}
-use Rattle.mum_state.proofs.Members.{any_agree, map_agree, or_false}
-use Rattle.mum_state.proofs.Suppressed.{heard, heard_after, heard_members, heard_proper, silent_after, with_heard}
+use Rattle.mum_state.proofs.Common.{◌≡◌, ℕ, zero, suc, ◌+◌, ◌<◌, ◌≤◌, ◌==◌, ◌&&◌, ◌||◌, not, Bool, true, false, cond, List, [], ◌∷◌, get_or, map, refl, sym, ap, ◌∙◌, arith, Option, Some, None, All, list_any, eq-eqb, ne_eqb, ChannelId, User, SlotsRise, Edit, MakeChannel, Renewed, applied, counts_after, raised_slots, raised_where, renews, empties, has_member, is_emptied, without_emptied, fits, counted, is_left_empty, left_by, with_left_closed, changes_paths, changes_routes, is_of_configuration, sets_policy, IsProper, heard_again, is_renewed_slot, set_by, Counts, StateValue, heard_anew, is_renewed, is_set_anew, with_clearing, with_suppression}
+use Rattle.mum_state.proofs.{Keeping.fit_proper, Leftover.IsClosed, Leftover.alone_heard, Leftover.closed_by, Leftover.left_alone, Members.any_agree, Members.map_agree, Members.or_false, Suppressed.heard, Suppressed.heard_after, Suppressed.heard_members, Suppressed.heard_proper, Suppressed.silent_after, Suppressed.with_heard}
 
 -- ---- slots are of one session each
 

@@ -1,14 +1,5 @@
 -- What a session may do is asked of it as whoever it is.
-use Rattle.std.proofs.Common.{◌≡◌, Bool, true, false, cond, refl, sym, ap, Option, Some, None}
-use Rattle.std.specs.Option.{option_map}
-use Rattle.mum_base.specs.declared.number.ChannelId.{ChannelId}
-use Rattle.mum_base.specs.declared.number.SessionId.{SessionId}
-use Rattle.mum_tree.specs.Rows.{is_there}
-use Rattle.mum_users.specs.declared.user.User.{User}
-use Rattle.mum_users.specs.Sessions.{session_of}
-use Rattle.mum_state.specs.Channels.{channels_of, granted_where_in}
-use Rattle.mum_state.specs.Permissions.{actor_from, granted_to, perm_of}
-use Rattle.mum_state.specs.State.{StateValue}
+use Rattle.mum_state.proofs.Common.{◌≡◌, Bool, true, false, cond, refl, sym, ap, Option, Some, None, option_map, ChannelId, SessionId, is_there, User, session_of, channels_of, granted_where_in, actor_from, granted_to, perm_of, StateValue}
 
 pub asked_of : (state : StateValue) (session : SessionId) (channel : ChannelId) (user : User) → session_of state.roster session ≡ Some user
     → granted_where_in (channels_of state) (actor_from state.tree user) channel ≡ perm_of state session channel

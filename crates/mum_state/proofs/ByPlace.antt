@@ -1,17 +1,5 @@
 -- The policy of a channel lies at the channel's place.
-use Rattle.std.proofs.Common.{◌≡◌, ℕ, suc, ◌==◌, ◌<◌, Bool, true, false, List, [], ◌∷◌, find, length, get_or, refl, sym, ap, ◌∙◌, arith, Option, Some, None, unwrap_or, slice_index_or, if◌then◌else◌, is_some, IsSome, IsTrue}
-use Rattle.std.proofs.lemmas.List.{get_or_default}
-use Rattle.std.proofs.lemmas.Option.{none-some}
-use mathlib.Core.Bool.{false≢true}
-use Rattle.std.specs.List.{All}
-use Rattle.std.specs.Option.{option_map}
-use Rattle.mum_base.specs.declared.number.ChannelId.{ChannelId}
-use Rattle.mum_policy.specs.declared.policy.ChannelPolicy.{ChannelPolicy}
-use Rattle.mum_tree.specs.declared.channel.Row.{Row}
-use Rattle.mum_tree.specs.Rows.{is_there, row_of}
-use Rattle.mum_state.specs.Channels.{ChannelsState, policy_map}
-use Rattle.mum_state.specs.State.{PolicyRow, open_policy}
-use Rattle.mum_state.specs.Stored.{policies_by_place}
+use Rattle.mum_state.proofs.Common.{◌≡◌, ℕ, suc, ◌==◌, ◌<◌, Bool, true, false, List, [], ◌∷◌, find, length, get_or, refl, sym, ap, ◌∙◌, arith, Option, Some, None, unwrap_or, slice_index_or, if◌then◌else◌, is_some, IsSome, IsTrue, get_or_default, none-some, false≢true, All, option_map, ChannelId, ChannelPolicy, Row, is_there, row_of, ChannelsState, policy_map, PolicyRow, open_policy, policies_by_place}
 
 -- a policy lies at the place of each channel
 abbrev pub ArePlaced : List ChannelPolicy → List Row → Type 0

@@ -1,11 +1,5 @@
 -- What clearing leaves: the state as it was, or with one session that may speak.
-use Rattle.std.proofs.Common.{Bool, true, false, Option, Some, None, if◌then◌else◌}
-use Rattle.mum_base.specs.declared.number.SessionId.{SessionId}
-use Rattle.mum_users.specs.Sessions.{suppressed}
-use Rattle.mum_state.specs.declared.edit.Edit.{Edit}
-use Rattle.mum_state.specs.Parts.{SessionEdit, session_edit}
-use Rattle.mum_state.specs.State.{StateValue}
-use Rattle.mum_state.specs.Suppression.{cleared_by, with_clearing}
+use Rattle.mum_state.proofs.Common.{Bool, true, false, Option, Some, None, if◌then◌else◌, SessionId, suppressed, Edit, SessionEdit, session_edit, StateValue, cleared_by, with_clearing}
 
 -- what holds of the state, and of it with whichever session may speak, holds of what clearing leaves
 pub by_clearing : (P : StateValue → Type 0) (edit : Edit) (state : StateValue) → P state

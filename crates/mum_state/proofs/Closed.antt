@@ -1,37 +1,12 @@
 -- Without the temporary channels that are emptied a state stays proper.
-use Rattle.std.proofs.Common.{◌≡◌, ◌≢◌, ℕ, zero, suc, ◌<◌, ◌≤◌, ◌&&◌, not, Bool, true, false, cond, eqb, List, [], ◌∷◌, get_or, refl, sym, ap, subst, ◌∙◌, arith, Option, Some, is_some, ⊎_elim, Contains}
-use Rattle.std.specs.List.{All, filter, list_all}
-use Rattle.std.specs.Option.{option_map_or}
-use Rattle.std.proofs.lemmas.Bool.{and_from, and_parts, both_ways, cases_Bool, eq-eqb, ne_eqb}
-use Rattle.std.proofs.lemmas.List.Elements.{All-filter}
-use Rattle.std.proofs.lemmas.List.Folds.{list_any_at}
-use Rattle.std.proofs.lemmas.List.Kept.{AllPairs-filter}
-use Rattle.std.proofs.lemmas.List.Sums.{length-filter, count_by-le-length}
-use Rattle.std.proofs.lemmas.Option.{same_Some}
-use Rattle.mum_base.specs.declared.number.ChannelId.{ChannelId}
-use Rattle.mum_tree.specs.declared.channel.Row.{Row}
-use Rattle.mum_tree.specs.Proper.{AreApart, AreLinks, IsProper as IsProperTree, IsUnderLasting, LeadUp}
-use Rattle.mum_tree.specs.Rows.{Rise, is_temporary, is_there, number, row_of, upward}
-use Rattle.mum_tree.specs.State.{Pair, TreeState, without_rows}
-use Rattle.mum_tree.proofs.Changed.{number_found}
-use Rattle.mum_tree.proofs.Find.{row_of_at}
-use Rattle.mum_tree.proofs.Joined.{links_filtered}
-use Rattle.mum_tree.proofs.Shrunk.{filter_agree_at, kept_row, there_after}
-use Rattle.mum_tree.proofs.Upward.{lead_parent, the_root, there_from_lead, upward_root, upward_under, upward_zero}
-use Rattle.mum_users.specs.declared.user.User.{User}
-use Rattle.mum_users.specs.State.{is_in}
-use Rattle.mum_state.specs.Emptied.{has_member, is_emptied, without_emptied}
-use Rattle.mum_state.specs.Proper.{IsProper}
-use Rattle.mum_state.specs.Set.{with_tree}
-use Rattle.mum_state.specs.State.{StateValue}
-use Rattle.mum_state.proofs.Gone.{rows_of, there_of}
-use Rattle.mum_state.proofs.Listed.{all_at, all_from}
-use Rattle.mum_state.proofs.Parted.{cut}
+use Rattle.mum_state.proofs.Common.{◌≡◌, ◌≢◌, ℕ, zero, suc, ◌<◌, ◌≤◌, ◌&&◌, not, Bool, true, false, cond, eqb, List, [], ◌∷◌, get_or, refl, sym, ap, subst, ◌∙◌, arith, Option, Some, is_some, ⊎_elim, Contains, All, filter, list_all, option_map_or, and_from, and_parts, both_ways, cases_Bool, eq-eqb, ne_eqb, All-filter, list_any_at, AllPairs-filter, length-filter, count_by-le-length, same_Some, ChannelId, Row, AreLinks, IsProperTree, IsUnderLasting, LeadUp, Rise, is_temporary, is_there, number, row_of, upward, Pair, TreeState, without_rows, number_found, row_of_at, links_filtered, filter_agree_at, kept_row, there_after, lead_parent, the_root, there_from_lead, upward_root, upward_under, upward_zero, User, is_in, has_member, is_emptied, without_emptied, IsProper, with_tree, StateValue}
+use Rattle.mum_tree.specs.Proper.{AreApart}
+use Rattle.mum_state.proofs.{Gone.rows_of, Gone.there_of, Listed.all_at, Listed.all_from, Parted.cut}
 
 -- what holds of each row holds of the one that is found
-pub found_passes : (P : Row → Type 0) (rows : List Row) (id : ChannelId) (row : Row) → All P rows → row_of rows id ≡ Some row → P row
-found_passes P [] id row all found = cc
-found_passes P (first ∷ rows) id row all found = step (eqb (number first) id.0) refl (found_passes P rows id row (λ k d within. all (suc k) d (omega arith)))
+pub found_row_holds : (P : Row → Type 0) (rows : List Row) (id : ChannelId) (row : Row) → All P rows → row_of rows id ≡ Some row → P row
+found_row_holds P [] id row all found = cc
+found_row_holds P (first ∷ rows) id row all found = step (eqb (number first) id.0) refl (found_row_holds P rows id row (λ k d within. all (suc k) d (omega arith)))
   where
     choice : (b : Bool) → eqb (number first) id.0 ≡ b → cond b (Some first) (row_of rows id) ≡ Some row
     choice b is = sym (ap (λ (x : Bool). cond x (Some first) (row_of rows id)) is) ∙ found
@@ -139,7 +114,7 @@ kept_closed before after tree proper =
       root = kept_lasting before after rows the_root (ap (λ (o : Option Row). option_map_or (λ r. r.channel.temporary) o false) found ∙ is.3);
       above = λ id row seen under.
           kept_lasting before after rows row.channel.parent
-          (found_passes (IsUnderLasting rows) rows id row proper.lasting seen
+          (found_row_holds (IsUnderLasting rows) rows id row proper.lasting seen
           (λ (zero_is : number row ≡ 0). both_ways (eqb id.0 0) under (eq-eqb id.0 0 (sym (number_found rows id row seen) ∙ zero_is))));
     }
 

@@ -1,10 +1,5 @@
 -- Counts never fall.
-use Rattle.std.proofs.Common.{ℕ, ◌+◌, ◌≤◌, Bool, true, false, List, [], ◌∷◌, arith}
-use Rattle.mum_state.specs.After.{led_to}
-use Rattle.mum_state.specs.Applied.{applied}
-use Rattle.mum_state.specs.Counts.{raised_slots, raised_where}
-use Rattle.mum_state.specs.Laws.{AreAtMost, AreCountsOn, CountsNeverFall}
-use Rattle.mum_state.specs.State.{Counts, StateValue}
+use Rattle.mum_state.proofs.Common.{ℕ, ◌+◌, ◌≤◌, Bool, true, false, List, [], ◌∷◌, arith, led_to, applied, raised_slots, raised_where, AreAtMost, AreCountsOn, CountsNeverFall, Counts, StateValue}
 
 raised : (holds : Bool) (count : ℕ) → count ≤ raised_where holds count
 raised true count = omega arith

@@ -1,23 +1,6 @@
 -- Whence the sessions after an edit come: each was there before, or joined with the next number.
-use Rattle.std.proofs.Common.{◌≡◌, ℕ, ◌+◌, not, Bool, true, false, cond, List, map, refl, sym, ◌∙◌, Some, None, if◌then◌else◌}
-use Rattle.std.proofs.lemmas.Bool.{false≢true}
-use Rattle.mum_base.specs.declared.number.SessionId.{SessionId}
-use Rattle.mum_users.specs.declared.user.User.{User}
-use Rattle.mum_users.specs.Edit.{changed_user}
-use Rattle.mum_users.specs.State.{RosterState, has_number, joining}
-use Rattle.mum_users.specs.Sessions.{free_slot, next_number, next_slot}
-use Rattle.mum_tree.specs.Refusals.{parent_of}
-use Rattle.mum_tree.specs.Rows.{is_below}
-use Rattle.mum_state.specs.declared.edit.Edit.{Edit}
-use Rattle.mum_state.specs.declared.edit.Edit.TheVariants.{Join, Kick, Leave, MakeChannel, RemoveChannel, SetTarget, SetTokens, SetUser}
-use Rattle.mum_state.specs.Applied.{applied}
-use Rattle.mum_state.specs.Kinds.{sets_tokens_of}
-use Rattle.mum_state.specs.Parts.{user_parts}
-use Rattle.mum_state.specs.Set.{set_by}
-use Rattle.mum_state.specs.State.{StateValue}
-use Rattle.mum_state.specs.Suppression.{heard_anew, is_set_anew, with_clearing, with_suppression}
-use Rattle.mum_state.proofs.Clearing.{by_clearing}
-use Rattle.mum_state.proofs.Each.{Each, each_filter, each_insert, each_map, each_so}
+use Rattle.mum_state.proofs.Common.{◌≡◌, ℕ, ◌+◌, not, Bool, true, false, cond, List, map, refl, sym, ◌∙◌, Some, None, if◌then◌else◌, false≢true, SessionId, User, changed_user, RosterState, has_number, joining, free_slot, next_number, next_slot, parent_of, is_below, Edit, Join, Kick, Leave, MakeChannel, RemoveChannel, SetTarget, SetTokens, SetUser, applied, sets_tokens_of, user_parts, set_by, StateValue, heard_anew, is_set_anew, with_clearing, with_suppression}
+use Rattle.mum_state.proofs.{Clearing.by_clearing, Each.Each, Each.each_filter, Each.each_insert, Each.each_map, Each.each_so}
 
 -- it is the same session, in its slot, with its account and, unless the edit sets them, its tokens
 pub record IsSame (edit : Edit) (was now : User) : Type 0 where

@@ -1,11 +1,5 @@
 -- What holds of each element of a list, and what a test says of one.
-use Rattle.std.proofs.Common.{◌≡◌, ℕ, zero, suc, ◌<◌, ◌≤◌, ◌||◌, Bool, true, false, cond, List, [], ◌∷◌, ◌++◌, map, refl, sym, ap, subst, ◌∙◌, arith, Option, Some, None, is_some}
-use Rattle.std.specs.Prelude.{⊤}
-use Rattle.std.specs.List.{All, count_by, filter, find, insert, list_all, list_any}
-use Rattle.std.specs.Option.{option_map}
-use Rattle.std.proofs.lemmas.Bool.{and_parts, false≢true, or_left, or_parts, or_right}
-use Rattle.std.proofs.lemmas.Option.{none-some, same_Some}
-use Rattle.mum_users.proofs.Counts.{count_by-cons}
+use Rattle.mum_state.proofs.Common.{◌≡◌, ℕ, zero, suc, ◌<◌, ◌≤◌, ◌||◌, Bool, true, false, cond, List, [], ◌∷◌, ◌++◌, map, refl, sym, ap, subst, ◌∙◌, arith, Option, Some, None, is_some, ⊤, All, count_by, filter, find, insert, list_all, list_any, option_map, and_parts, false≢true, or_left, or_parts, or_right, none-some, same_Some, count_by-cons}
 
 abbrev pub Each : {X : Type 0} → (X → Type 0) → List X → Type 0
 Each P [] = ⊤

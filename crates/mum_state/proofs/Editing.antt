@@ -1,28 +1,7 @@
 -- A channel of which several parts become others.
-use Rattle.std.proofs.Common.{◌≡◌, ◌↔◌, ◌&&◌, ◌++◌, Bool, true, false, cond, eqb, List, ◌∷◌, map, refl, sym, ap, ◌∙◌, Option, Some, None, is_none}
-use Rattle.std.specs.List.{list_all}
-use Rattle.std.proofs.lemmas.Bool.{and_from, and_parts, eq-eqb}
-use Rattle.std.proofs.lemmas.List.Folds.{list_all-append, list_all-map}
-use Rattle.mum_base.specs.declared.number.ChannelId.{ChannelId}
-use Rattle.mum_tree.specs.declared.channel.Row.{Row}
-use Rattle.mum_tree.specs.Change.{Change, fault_of_edit, given_or, names_there, parent_after, with_change, with_given}
-use Rattle.mum_tree.specs.Proper.{IsProper as IsProperTree}
-use Rattle.mum_tree.specs.Refusals.{parent_of}
-use Rattle.mum_tree.specs.Rows.{is_there, number, row_of}
-use Rattle.mum_tree.specs.State.{TreeState, changed}
-use Rattle.mum_tree.proofs.Changed.{change_row, number_found}
-use Rattle.mum_tree.proofs.EditBack.{edits_both_ways}
-use Rattle.mum_tree.proofs.Edited.{still_given}
-use Rattle.mum_tree.proofs.Edits.{some_row}
-use Rattle.mum_state.specs.Fits.{holds_of_given}
-use Rattle.mum_state.specs.Named.{given}
-use Rattle.mum_state.specs.Proper.{IsProper, is_name, is_sound_channel, is_text}
-use Rattle.mum_state.specs.State.{StateValue}
-use Rattle.mum_state.proofs.Closed.{found_passes}
-use Rattle.mum_state.proofs.Givens.{given_back, given_good, holds_of_list, is_none_of, none_is}
-use Rattle.mum_state.proofs.Gone.{parent_there}
-use Rattle.mum_state.proofs.Listed.{all_at, all_map, all_too, map_same, map_twice}
-use Rattle.mum_state.proofs.Parted.{with_channels}
+use Rattle.mum_state.proofs.Common.{◌≡◌, ◌↔◌, ◌&&◌, ◌++◌, Bool, true, false, cond, eqb, List, ◌∷◌, map, refl, sym, ap, ◌∙◌, Option, Some, None, is_none, list_all, and_from, and_parts, eq-eqb, list_all-append, list_all-map, ChannelId, Row, Change, fault_of_edit, given_or, parent_after, with_change, with_given, IsProperTree, parent_of, is_there, number, row_of, TreeState, changed, change_row, number_found, edits_both_ways, still_given, some_row, holds_of_given, given, IsProper, is_name, is_sound_channel, is_text, StateValue}
+use Rattle.mum_tree.specs.Change.{names_there}
+use Rattle.mum_state.proofs.{Closed.found_row_holds, Givens.given_back, Givens.given_good, Givens.holds_of_list, Givens.is_none_of, Givens.none_is, Gone.parent_there, Listed.all_at, Listed.all_map, Listed.all_too, Listed.map_same, Listed.map_twice, Parted.with_channels}
 
 -- each channel that the change names is there, as the tree says it
 parent_named : (tree : TreeState) (id : ChannelId) (parent : Option ChannelId) → IsProperTree tree → is_there tree.channels id ≡ true → holds_of_given (is_there tree.channels) parent ≡ true
@@ -45,7 +24,7 @@ named_in_tree tree id change proper named =
     adds)
     removes
 
--- nothing stands against the change, and its texts are as they may be
+-- nothing forbids the change, and its texts are as they may be
 abbrev pub may_edit : StateValue → ChannelId → Change → Bool
 may_edit state id change =
     is_none (fault_of_edit state.tree id change) && holds_of_given is_name change.name && holds_of_given is_text change.description
@@ -97,7 +76,7 @@ edit_from state id change proper named there after =
     let f : Row → Row = change_row id (with_given change) in
     let (row, found) = some_row (row_of rows id) there in
     let each : list_all (λ one. is_sound_channel (f one)) rows ≡ true = sym (list_all-map is_sound_channel f rows) ∙ after.channels in
-    let sound : is_sound_channel (f row) ≡ true = found_passes (λ one. is_sound_channel (f one) ≡ true) rows id row (all_at (λ one. is_sound_channel (f one)) rows each) found in
+    let sound : is_sound_channel (f row) ≡ true = found_row_holds (λ one. is_sound_channel (f one) ≡ true) rows id row (all_at (λ one. is_sound_channel (f one)) rows each) found in
     let is : eqb (number row) id.0 ≡ true = eq-eqb (number row) id.0 (number_found rows id row found) in
     let changed_sound : is_sound_channel (record row { channel = with_given change row.channel }) ≡ true =
     sym (ap (λ (b : Bool). is_sound_channel (cond b (record row { channel = with_given change row.channel }) row)) is) ∙ sound in
@@ -109,7 +88,7 @@ edit_from state id change proper named there after =
     (given_back is_name change.name row.channel.name name))
     (given_back is_text change.description row.channel.info.description text)
 
--- nothing stands against a change of a channel exactly where the state after it is proper
+-- nothing forbids a change of a channel exactly where the state after it is proper
 pub changes_both_ways : (state : StateValue) (id : ChannelId) (change : Change) → IsProper state
     → list_all (is_there state.tree.channels) (id ∷ (given change.parent ++ change.links_add ++ change.links_remove)) ≡ true
     → (may_edit state id change ≡ true) ↔ IsProper (record state { tree = with_change state.tree id change })

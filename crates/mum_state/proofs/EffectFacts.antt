@@ -1,12 +1,5 @@
 -- What follows from an edit: who may speak where it is, and which temporary channel goes, worked out on small states.
-use Rattle.std.proofs.Common.{◌≡◌, ℕ, ◌-◌, true, List, [], ◌∷◌, ◌++◌, codes, map, Some, None}
-use Rattle.mum_base.specs.declared.perm.TheConstants.Perm.{SPEAK, START}
-use Rattle.mum_policy.proofs.Scenes.{denies, everybody, grants, one, only_here, plain, the_account, those_in, two}
-use Rattle.mum_tree.proofs.Scenes.{to_parent}
-use Rattle.mum_tree.specs.State.{partners}
-use Rattle.mum_users.proofs.Scenes.{channel, same_flags, session, to_channel, to_listen, unchanged}
-use Rattle.mum_state.specs.declared.edit.Edit.{Edit}
-use Rattle.mum_state.specs.declared.edit.Edit.TheVariants.{Text}
+use Rattle.mum_state.proofs.Common.{◌≡◌, ℕ, ◌-◌, true, List, [], ◌∷◌, ◌++◌, codes, map, Some, None, SPEAK, START, denies, everybody, grants, one, only_here, plain, the_account, those_in, two, to_parent, partners, channel, same_flags, session, to_channel, to_listen, unchanged, Edit, Text}
 use Rattle.mum_state.proofs.Scenes.{add_account, channels_in, clear, counts_in, edit_by, enter, join, join_as, kick, leave, link, listen, listened_in, make, make_temporary, places_in, policy_in, remove, rights_in, set_policy, set_tokens, set_user, set_user_by, slots_in, state, suppressed_in}
 
 abbrev ann : List ℕ

@@ -1,25 +1,6 @@
 -- Where one temporary channel is emptied, and no other, the removal of that one is what goes.
-use Rattle.std.proofs.Common.{◌≡◌, ℕ, zero, suc, ◌&&◌, ◌||◌, not, Bool, true, false, cond, eqb, List, [], ◌∷◌, map, refl, sym, ap, subst, ◌∙◌, Some, is_some, ⊎_elim, Contains}
-use Rattle.std.specs.List.{filter, list_all, list_any}
-use Rattle.std.proofs.lemmas.Bool.{and_parts, both_ways, cases_Bool, eq-eqb, eqb-true, or_left, or_right}
-use Rattle.mum_base.specs.declared.number.ChannelId.{ChannelId}
-use Rattle.mum_tree.specs.declared.channel.Row.{Row}
-use Rattle.mum_tree.specs.Proper.{IsProper as IsProperTree, IsUnderLasting}
-use Rattle.mum_tree.specs.Rows.{is_below, is_temporary, is_there, number, row_of, upward}
-use Rattle.mum_tree.specs.State.{TreeState, without_rows, without_subtree}
-use Rattle.mum_tree.proofs.Changed.{number_found}
-use Rattle.mum_tree.proofs.Edits.{some_row}
-use Rattle.mum_tree.proofs.Shrunk.{is_top, list_any-reverse}
-use Rattle.mum_tree.proofs.Upward.{lead_parent, none_contained, the_root, there_from_lead, upward_at, upward_root, upward_under, upward_zero}
-use Rattle.mum_users.specs.declared.user.User.{User}
-use Rattle.mum_users.specs.State.{is_in}
-use Rattle.mum_state.specs.Emptied.{has_member, without_emptied}
-use Rattle.mum_state.specs.Proper.{IsProper}
-use Rattle.mum_state.specs.Set.{with_tree}
-use Rattle.mum_state.specs.State.{StateValue}
-use Rattle.mum_state.proofs.Closed.{found_passes, is_kept, is_left, rows_not_left}
-use Rattle.mum_state.proofs.Listed.{filter_same}
-use Rattle.mum_state.proofs.Quiet.{rows_there}
+use Rattle.mum_state.proofs.Common.{◌≡◌, ℕ, zero, suc, ◌&&◌, ◌||◌, not, Bool, true, false, cond, eqb, List, [], ◌∷◌, map, refl, sym, ap, subst, ◌∙◌, Some, is_some, ⊎_elim, Contains, filter, list_all, list_any, and_parts, both_ways, cases_Bool, eq-eqb, eqb-true, or_left, or_right, ChannelId, Row, IsProperTree, IsUnderLasting, is_below, is_temporary, is_there, number, row_of, upward, TreeState, without_rows, without_subtree, number_found, some_row, is_top, list_any-reverse, lead_parent, none_contained, the_root, there_from_lead, upward_at, upward_root, upward_under, upward_zero, User, is_in, has_member, without_emptied, IsProper, with_tree, StateValue}
+use Rattle.mum_state.proofs.{Closed.found_row_holds, Closed.is_kept, Closed.is_left, Closed.rows_not_left, Listed.filter_same, Quiet.rows_there}
 
 module _ (tree : TreeState) (top : ChannelId) (proper : IsProperTree tree) (temporary : is_temporary tree.channels top ≡ true) where
   -- no parent is the temporary channel
@@ -28,7 +9,7 @@ module _ (tree : TreeState) (top : ChannelId) (proper : IsProperTree tree) (temp
     where
       lasts : is_temporary tree.channels row.channel.parent ≡ false
       lasts =
-          found_passes (IsUnderLasting tree.channels) tree.channels id row proper.lasting found
+          found_row_holds (IsUnderLasting tree.channels) tree.channels id row proper.lasting found
           (λ (root : number row ≡ 0). both_ways (eqb id.0 0) under (eq-eqb id.0 0 (sym (number_found tree.channels id row found) ∙ root)))
 
       step : (b : Bool) → eqb row.channel.parent.0 top.0 ≡ b → b ≡ false

@@ -1,16 +1,5 @@
 -- Which edits fit a state, worked out on small states.
-use Rattle.std.proofs.Common.{◌≡◌, ℕ, zero, suc, ◌-◌, ◌^◌, Bool, true, false, List, [], ◌∷◌, ◌++◌, codes, map, replicate, Some, None, refl}
-use Rattle.mum_base.specs.declared.perm.TheConstants.Perm.{ALL, SPEAK}
-use Rattle.mum_policy.proofs.Scenes.{defines, denies, entry, everybody, grants, group, one, plain, policy, the_account}
-use Rattle.mum_tree.specs.State.{TreeState, plain_info}
-use Rattle.mum_tree.proofs.Scenes.{beside, linked_to, nested, to_links, to_name, to_parent, to_placement, tree, two_letters, unchanged as same_channel}
-use Rattle.mum_users.proofs.Scenes.{account, all_listen, channel, item_channel, item_sessions, joins, listens_to, numbers_from, roster, session, to_listen, unchanged, with_group}
-use Rattle.mum_state.specs.declared.account.Account.{Account}
-use Rattle.mum_state.specs.declared.edit.Edit.{Edit}
-use Rattle.mum_state.specs.declared.edit.Edit.TheVariants.{Kick, MakeChannel, SetServer, Text}
-use Rattle.mum_state.specs.Fits.{fits}
-use Rattle.mum_state.specs.Set.{with_limits}
-use Rattle.mum_state.specs.State.{StateValue, empty_state}
+use Rattle.mum_state.proofs.Common.{◌≡◌, ℕ, zero, suc, ◌-◌, ◌^◌, Bool, true, false, List, [], ◌∷◌, ◌++◌, codes, map, replicate, Some, None, refl, ALL, SPEAK, defines, denies, entry, everybody, grants, group, one, plain, policy, the_account, TreeState, plain_info, beside, linked_to, nested, to_links, to_name, to_parent, to_placement, tree, two_letters, same_channel, account, all_listen, channel, item_channel, item_sessions, joins, listens_to, numbers_from, roster, session, to_listen, unchanged, with_group, Account, Edit, Kick, MakeChannel, SetServer, Text, fits, with_limits, StateValue, empty_state}
 use Rattle.mum_state.proofs.Scenes.{add_account, digest, edit, edit_by, enter, join, join_as, kick, leave, make, make_by, make_temporary, move, remove, set_limits, set_policy, set_policy_by, set_target, set_tokens, set_user, set_user_by, state}
 
 abbrev ann : List ℕ

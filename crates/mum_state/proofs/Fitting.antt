@@ -1,12 +1,7 @@
 -- The four parts of what fits.
-use Rattle.std.proofs.Common.{◌≡◌, ◌&&◌, Bool, true}
-use Rattle.std.proofs.lemmas.Bool.{and_from, and_parts}
-use Rattle.mum_state.specs.declared.edit.Edit.{Edit}
-use Rattle.mum_state.specs.Fits.{fits, gives_right_numbers, is_countable, sets_properly}
-use Rattle.mum_state.specs.Named.{names_there}
-use Rattle.mum_state.specs.State.{StateValue}
+use Rattle.mum_state.proofs.Common.{◌≡◌, ◌&&◌, Bool, true, and_from, and_parts, Edit, fits, gives_right_numbers, is_countable, sets_properly, names_there, StateValue}
 
--- each part of what fits stands
+-- each part of what fits holds
 pub record FitsByParts (state : StateValue) (edit : Edit) : Type 0 where
   pub named : names_there state edit ≡ true
   pub numbers : gives_right_numbers state edit ≡ true

@@ -1,10 +1,5 @@
 -- What a test says of a value that may be given.
-use Rattle.std.proofs.Common.{◌≡◌, Bool, true, refl, ap, Option, Some, None, is_none, unwrap_or}
-use Rattle.std.specs.List.{list_all}
-use Rattle.std.proofs.lemmas.Bool.{and_parts, false≢true}
-use Rattle.mum_tree.specs.Change.{given_or}
-use Rattle.mum_state.specs.Fits.{holds_of_given}
-use Rattle.mum_state.specs.Named.{given}
+use Rattle.mum_state.proofs.Common.{◌≡◌, Bool, true, refl, ap, Option, Some, None, is_none, unwrap_or, list_all, and_parts, false≢true, given_or, holds_of_given, given}
 
 pub none_is : {X : Type 0} (value : Option X) → is_none value ≡ true → value ≡ None
 none_is None none = refl

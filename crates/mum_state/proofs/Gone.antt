@@ -1,19 +1,5 @@
 -- What is there once channels are gone, and where those who were in them are.
-use Rattle.std.proofs.Common.{◌≡◌, ℕ, zero, suc, ◌-◌, ◌≤◌, ◌&&◌, ◌||◌, not, Bool, true, false, cond, eqb, List, [], ◌∷◌, map, length, refl, sym, ap, subst, ◌∙◌, arith, Option, Some, is_some, ⊎_elim, Contains}
-use Rattle.std.specs.List.{filter, list_all, list_any}
-use Rattle.std.specs.Option.{option_map_or}
-use Rattle.std.proofs.lemmas.Bool.{both_ways, cases_Bool, eqb-true}
-use Rattle.mum_base.specs.declared.number.ChannelId.{ChannelId}
-use Rattle.mum_tree.specs.declared.channel.Row.{Row}
-use Rattle.mum_tree.specs.Proper.{IsProper as IsProperTree}
-use Rattle.mum_tree.specs.Refusals.{parent_of}
-use Rattle.mum_tree.specs.Rows.{is_below, is_there, number, row_of, upward}
-use Rattle.mum_tree.specs.State.{TreeState, without_subtree}
-use Rattle.mum_tree.proofs.Edits.{some_row}
-use Rattle.mum_tree.proofs.Shrunk.{is_top, list_any-reverse, upward_enough}
-use Rattle.mum_tree.proofs.Upward.{lead_parent, none_contained, the_root, there_from_lead, upward_more, upward_root, upward_under, upward_zero}
-use Rattle.mum_users.specs.declared.user.User.{User}
-use Rattle.mum_state.specs.Set.{moved_up}
+use Rattle.mum_state.proofs.Common.{◌≡◌, ℕ, zero, suc, ◌-◌, ◌≤◌, ◌&&◌, ◌||◌, not, Bool, true, false, cond, eqb, List, [], ◌∷◌, map, length, refl, sym, ap, subst, ◌∙◌, arith, Option, Some, is_some, ⊎_elim, Contains, filter, list_all, list_any, option_map_or, both_ways, cases_Bool, eqb-true, ChannelId, Row, IsProperTree, parent_of, is_below, is_there, number, row_of, upward, TreeState, without_subtree, some_row, is_top, list_any-reverse, upward_enough, lead_parent, none_contained, the_root, there_from_lead, upward_more, upward_root, upward_under, upward_zero, User, moved_up}
 use Rattle.mum_state.proofs.Listed.{all_map}
 
 -- the rows of channels that pass a test
@@ -72,7 +58,7 @@ way_of_above rows top (suc steps) id short lead on =
     (cases_Bool (eqb id.0 0)))
     (cases_Bool (eqb id.0 top.0))
 
--- what stands of a channel that is there and is not the root
+-- what holds of a channel that is there and is not the root
 record IsUnder (rows : List Row) (id : ChannelId) (parent : ChannelId) : Type 0 where
   there : is_there rows parent ≡ true
   off : is_below rows id parent ≡ false

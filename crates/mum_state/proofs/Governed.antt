@@ -1,28 +1,6 @@
 -- What calls on channels leave, as the code has it, is what contracts say.
-use Rattle.std.proofs.Common.{◌≡◌, ℕ, zero, suc, ◌+◌, ◌<◌, ◌≤◌, ◌&&◌, ◌⊎◌, ◌++◌, not, Bool, true, false, cond, List, [], ◌∷◌, length, length-set, get_or, set, refl, sym, ap, subst, ◌∙◌, arith, Some, None, inl, inr}
-use Rattle.std.specs.Option.{option_map}
-use Rattle.std.proofs.lemmas.Bool.{both_ways, cases_eq, cases_lt}
-use Rattle.std.proofs.Math.Bool.{and-false}
-use Rattle.std.proofs.lemmas.List.{get_or-set_other, get_or-set_same, get_or_past}
-use Rattle.mum_base.specs.declared.number.ChannelId.{ChannelId}
-use Rattle.mum_policy.specs.declared.policy.ChannelPolicy.{ChannelPolicy}
-use Rattle.mum_tree.specs.declared.channel.ChannelInfo.{ChannelInfo}
-use Rattle.mum_tree.specs.declared.channel.Row.{Row}
-use Rattle.mum_tree.specs.Change.{Change, with_change, with_given}
-use Rattle.mum_tree.specs.declared.fault.TreeFault.TheVariants.{NoChannel}
-use Rattle.mum_tree.specs.Places.{has_place, least_place}
-use Rattle.mum_tree.specs.Refusals.{fault_of_set_info}
-use Rattle.mum_tree.specs.Proper.{IsProper as IsProperTree}
-use Rattle.mum_tree.specs.Rows.{is_below, is_there, row_of}
-use Rattle.mum_tree.specs.State.{TreeState, new_row, with_info, with_new, without_subtree}
-use Rattle.mum_state.specs.Channels.{ChannelsState, with_channel_made, without_channel}
-use Rattle.mum_state.specs.Set.{with_policy}
-use Rattle.mum_state.specs.State.{PolicyRow, open_policy}
-use Rattle.mum_state.specs.Stored.{is_left, policies_by_place}
-use Rattle.mum_state.proofs.ByPlace.{laid}
-use Rattle.mum_state.proofs.Listed.{last_passes, map_same}
-use Rattle.mum_state.proofs.Quiet.{rows_there}
-use Rattle.mum_state.proofs.Laid.{IsOpenWhereFree, free_changed, laid_changed, laid_left, laid_made, laid_set}
+use Rattle.mum_state.proofs.Common.{◌≡◌, ℕ, zero, suc, ◌+◌, ◌<◌, ◌≤◌, ◌&&◌, ◌⊎◌, ◌++◌, not, Bool, true, false, cond, List, [], ◌∷◌, length, length-set, get_or, set, refl, sym, ap, subst, ◌∙◌, arith, Some, None, inl, inr, option_map, both_ways, cases_eq, cases_lt, and-false, get_or-set_other, get_or-set_same, get_or_past, ChannelId, ChannelPolicy, ChannelInfo, Row, Change, with_change, with_given, NoChannel, has_place, least_place, fault_of_set_info, IsProperTree, is_below, is_there, row_of, TreeState, new_row, with_info, with_new, without_subtree, ChannelsState, with_channel_made, without_channel, with_policy, PolicyRow, open_policy, is_left, policies_by_place}
+use Rattle.mum_state.proofs.{ByPlace.laid, Listed.last_passes, Listed.map_same, Quiet.rows_there, Laid.IsOpenWhereFree, Laid.free_changed, Laid.laid_changed, Laid.laid_left, Laid.laid_made, Laid.laid_set}
 
 -- the channels of a tree with the policies that lie at their places
 abbrev pub governed : List ChannelPolicy → TreeState → ChannelsState
@@ -74,7 +52,7 @@ open_pushed [] all (suc place) = refl
 open_pushed (policy ∷ policies) all zero = all 0
 open_pushed (policy ∷ policies) all (suc place) = open_pushed policies (λ k. all (suc k)) place
 
--- an open policy behind others is what lies behind them anyway
+-- an open policy after others is what comes after them anyway
 pub open_behind : (policies further : List ChannelPolicy) → ((place : ℕ) → get_or further place open_policy ≡ open_policy)
     → (place : ℕ) → get_or (policies ++ further) place open_policy ≡ get_or policies place open_policy
 open_behind [] further all place = all place
@@ -128,7 +106,7 @@ opened_more before rows first middle now place false within are is same = record
   kept = λ other off. ap (λ (ps : List ChannelPolicy). get_or ps other open_policy) same ∙ are.kept other off;
 }
 
--- behind the last policy lies the open one too
+-- after the last policy comes the open one too
 pub opened_all : (before : List Bool) (rows : List Row) (first now : List ChannelPolicy) (places : ℕ) → AreOpened before rows first now places → length first ≤ places
     → (place : ℕ) → is_left before rows place ≡ true → get_or now place open_policy ≡ open_policy
 opened_all before rows first now places are done place on = step (cases_lt place (length first))

@@ -1,41 +1,6 @@
--- What a session may do in a channel stands while the session is there and neither count rises.
-use Rattle.std.proofs.Common.{◌≡◌, ℕ, ◌+◌, ◌<◌, ◌≤◌, ◌==◌, ◌&&◌, ◌||◌, Bool, true, false, List, [], ◌∷◌, map, length, get_or, find, refl, sym, ap, subst, ◌∙◌, arith, Option, Some, None, if◌then◌else◌}
-use Rattle.std.specs.Option.{option_map}
-use Rattle.std.proofs.lemmas.Bool.{and_parts, eq-eqb, eqb-true, not-false, or_parts}
-use Rattle.std.proofs.lemmas.Option.{slice_get-get_or}
-use Rattle.mum_base.specs.declared.number.TheConstants.{SLOTS}
-use Rattle.mum_base.specs.declared.number.ChannelId.{ChannelId}
-use Rattle.mum_base.specs.declared.number.SessionId.{SessionId}
-use Rattle.mum_base.specs.declared.number.Slot.{Slot}
-use Rattle.mum_policy.specs.Member.{Actor}
-use Rattle.mum_policy.specs.Walk.{perm}
-use Rattle.mum_tree.specs.Rows.{is_there, path}
-use Rattle.mum_tree.specs.State.{Pair, TreeState}
-use Rattle.mum_users.specs.declared.user.User.{User}
-use Rattle.mum_users.specs.Proper.{SlotsRise}
-use Rattle.mum_users.specs.Sessions.{session_of}
-use Rattle.mum_users.specs.State.{has_number, is_in}
-use Rattle.mum_users.proofs.Rosters.{slots_below_greatest}
-use Rattle.mum_users.proofs.Slots.{SlotsRise-within}
-use Rattle.mum_state.specs.declared.edit.Edit.{Edit}
-use Rattle.mum_state.specs.After.{led_to}
-use Rattle.mum_state.specs.Applied.{applied}
-use Rattle.mum_state.specs.Counts.{raised_where, renews, slot_count}
-use Rattle.mum_state.specs.Emptied.{empties}
-use Rattle.mum_state.specs.Kinds.{changes_paths, sets_tokens_of}
-use Rattle.mum_state.specs.Laws.{PermissionsStand}
-use Rattle.mum_state.specs.Permissions.{actor_from, perm_of}
-use Rattle.mum_state.specs.Proper.{IsProper}
-use Rattle.mum_state.specs.Set.{set_by}
-use Rattle.mum_state.specs.State.{PolicyRow, StateValue}
-use Rattle.mum_state.specs.Suppression.{is_newcomer, is_renewed}
-use Rattle.mum_state.proofs.Counting.{counts_never_fall_lem}
-use Rattle.mum_state.proofs.Descent.{Descends, applied_descends, set_descends}
-use Rattle.mum_state.proofs.Each.{Each, each_any, each_both, each_fails, each_find, each_so, found_passes, shown}
-use Rattle.mum_state.proofs.Numbers.{last_rises}
-use Rattle.mum_state.proofs.Raised.{at_most_at, not_raised, raised_at}
-use Rattle.mum_state.proofs.Seats.{session_alone, session_known}
-use Rattle.mum_state.proofs.Ways.{AreGoverned, HasWays, edge, governed_where_proper, path_alike, there_alike, ways_stay}
+-- What a session may do in a channel stays while the session is there and neither count rises.
+use Rattle.mum_state.proofs.Common.{◌≡◌, ℕ, ◌+◌, ◌<◌, ◌≤◌, ◌==◌, ◌&&◌, ◌||◌, Bool, true, false, List, [], ◌∷◌, map, length, get_or, find, refl, sym, ap, subst, ◌∙◌, arith, Option, Some, None, if◌then◌else◌, option_map, and_parts, eq-eqb, eqb-true, not-false, or_parts, slice_get-get_or, SLOTS, ChannelId, SessionId, Slot, Actor, perm, is_there, path, Pair, TreeState, User, SlotsRise, session_of, has_number, is_in, slots_below_greatest, SlotsRise-within, Edit, led_to, applied, raised_where, renews, slot_count, empties, changes_paths, sets_tokens_of, PermissionsStand, actor_from, perm_of, IsProper, set_by, PolicyRow, StateValue, is_newcomer, is_renewed}
+use Rattle.mum_state.proofs.{Counting.counts_never_fall_lem, Descent.Descends, Descent.applied_descends, Descent.set_descends, Each.Each, Each.each_any, Each.each_both, Each.each_fails, Each.each_find, Each.each_so, Each.found_passes, Each.shown, Numbers.last_rises, Raised.at_most_at, Raised.not_raised, Raised.raised_at, Seats.session_alone, Seats.session_known, Ways.AreGoverned, Ways.HasWays, Ways.edge, Ways.governed_where_proper, Ways.path_alike, Ways.there_alike, Ways.ways_stay}
 
 -- ---- the session
 

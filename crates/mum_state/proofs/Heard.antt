@@ -1,14 +1,6 @@
--- What stays where whether sessions may speak is set anew.
-use Rattle.std.proofs.Common.{◌≡◌, Bool, true, false, cond, refl, ◌∙◌}
-use Rattle.mum_base.specs.declared.number.ChannelId.{ChannelId}
-use Rattle.mum_users.specs.declared.user.User.{User}
-use Rattle.mum_users.specs.State.{has_number, is_in}
-use Rattle.mum_state.specs.declared.edit.Edit.{Edit}
-use Rattle.mum_state.specs.Emptied.{has_member}
-use Rattle.mum_state.specs.State.{StateValue}
-use Rattle.mum_state.specs.Suppression.{heard_anew, is_set_anew, with_clearing, with_suppression}
-use Rattle.mum_state.proofs.Clearing.{by_clearing}
-use Rattle.mum_state.proofs.Each.{any_map}
+-- What stays where whether sessions may speak is set again.
+use Rattle.mum_state.proofs.Common.{◌≡◌, Bool, true, false, cond, refl, ◌∙◌, ChannelId, User, has_number, is_in, Edit, has_member, StateValue, heard_anew, is_set_anew, with_clearing, with_suppression}
+use Rattle.mum_state.proofs.{Clearing.by_clearing, Each.any_map}
 
 pub clearing_tree : (edit : Edit) (state : StateValue) → (with_clearing edit state).tree ≡ state.tree
 clearing_tree edit state = by_clearing (λ after. after.tree ≡ state.tree) edit state refl (λ session. refl)

@@ -1,31 +1,6 @@
 -- What a session or a channel holds, in place of what it held: tokens, voice targets and policies.
-use Rattle.std.proofs.Common.{◌≡◌, ℕ, ◌<◌, ◌↔◌, ◌==◌, ◌&&◌, ◌||◌, not, nat_lt, Bool, true, false, cond, eqb, List, [], ◌∷◌, length, map, refl, sym, ap, ◌∙◌, arith, Some, None, is_some}
-use Rattle.std.specs.List.{filter, list_all, list_any}
-use Rattle.std.proofs.lemmas.Bool.{and_from, and_parts, eqb-true, false≢true, not-true}
-use Rattle.std.proofs.lemmas.Bool.Decides.{nat_tests}
-use Rattle.std.proofs.lemmas.Option.{none-some}
-use Rattle.mum_base.specs.declared.number.ChannelId.{ChannelId}
-use Rattle.mum_base.specs.declared.number.SessionId.{SessionId}
-use Rattle.mum_policy.specs.declared.policy.ChannelPolicy.{ChannelPolicy}
-use Rattle.mum_tree.specs.declared.channel.Row.{Row}
-use Rattle.mum_tree.specs.Rows.{is_there, number, row_of}
-use Rattle.mum_users.specs.declared.fault.UserFault.TheVariants.{NoSession, TargetId, TargetSize}
-use Rattle.mum_users.specs.declared.target.Target.{Target}
-use Rattle.mum_users.specs.declared.target.TargetItem.{TargetItem}
-use Rattle.mum_users.specs.declared.target.TargetRow.{TargetRow}
-use Rattle.mum_users.specs.declared.target.TheConstants.{LAST_TARGET}
-use Rattle.mum_users.specs.declared.user.User.{User}
-use Rattle.mum_users.specs.Proper.{IsProper as IsProperRoster}
-use Rattle.mum_users.specs.Sessions.{with_tokens}
-use Rattle.mum_users.specs.State.{are_tokens, has_number, is_context, is_target}
-use Rattle.mum_users.specs.Targets.{is_oversize, target_fault, targeted, with_target}
-use Rattle.mum_users.proofs.Refusals.{targets_where_proper_lem, unset_stays_proper_lem}
-use Rattle.mum_users.proofs.Rosters.{IsProper-changed}
-use Rattle.mum_state.specs.Proper.{IsProper, is_short, is_sound_policy, is_sound_user, is_text}
-use Rattle.mum_state.specs.Set.{set_policy, with_policy}
-use Rattle.mum_state.specs.State.{PolicyRow, StateValue}
-use Rattle.mum_state.proofs.Listed.{all_changed, all_map, changed_passes, map_same, map_twice}
-use Rattle.mum_state.proofs.Parted.{with_channels, with_roster}
+use Rattle.mum_state.proofs.Common.{◌≡◌, ℕ, ◌<◌, ◌↔◌, ◌==◌, ◌&&◌, ◌||◌, not, nat_lt, Bool, true, false, cond, eqb, List, [], ◌∷◌, length, map, refl, sym, ap, ◌∙◌, arith, Some, None, is_some, filter, list_all, list_any, and_from, and_parts, eqb-true, false≢true, not-true, nat_tests, none-some, ChannelId, SessionId, ChannelPolicy, Row, is_there, number, row_of, NoSession, TargetId, TargetSize, Target, TargetItem, TargetRow, LAST_TARGET, User, IsProperRoster, with_tokens, are_tokens, has_number, is_context, is_target, is_oversize, target_fault, targeted, with_target, targets_where_proper_lem, unset_stays_proper_lem, IsProper-changed, IsProper, is_short, is_sound_policy, is_sound_user, is_text, set_policy, with_policy, PolicyRow, StateValue}
+use Rattle.mum_state.proofs.{Listed.all_changed, Listed.all_map, Listed.changed_passes, Listed.map_same, Listed.map_twice, Parted.with_channels, Parted.with_roster}
 
 -- ---- tokens
 

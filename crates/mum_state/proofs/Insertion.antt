@@ -1,20 +1,8 @@
 -- Accounts by their names, and their numbers, in their orders.
-use Rattle.std.proofs.Common.{◌≡◌, ℕ, zero, suc, ◌+◌, ◌<◌, ◌==◌, ◌||◌, not, Bool, true, false, List, [], ◌∷◌, length, get_or, insert, refl, sym, ap, ◌∙◌, arith, Some, None, find, IsTrue}
-use Rattle.std.specs.List.{list_any, position_or_len}
-use Rattle.std.proofs.lemmas.Bool.{ne_eqb}
-use Rattle.std.proofs.lemmas.Bool.Decides.{nat_tests}
-use Rattle.mum_base.specs.declared.number.AccountId.{AccountId}
-use Rattle.mum_users.specs.Order.{IsBelowAll, Rises}
-use Rattle.mum_users.proofs.Orders.{IsBelowAll-through}
-use Rattle.mum_users.proofs.Places.{one_more}
-use Rattle.mum_users.proofs.Search.{Rises-at}
-use Rattle.mum_state.specs.declared.account.Account.{Account}
-use Rattle.mum_state.specs.State.{account_below, is_before, is_named, is_numbered, with_account}
-use Rattle.mum_state.specs.Stored.{AreNumbers, number_below}
-use Rattle.mum_state.proofs.Members.{any_inserted, none_passes}
-use Rattle.mum_state.proofs.Orderly.{below_through, other_way, two_names, two_names_back}
+use Rattle.mum_state.proofs.Common.{◌≡◌, ℕ, zero, suc, ◌+◌, ◌<◌, ◌==◌, ◌||◌, not, Bool, true, false, List, [], ◌∷◌, length, get_or, insert, refl, sym, ap, ◌∙◌, arith, Some, None, find, IsTrue, list_any, position_or_len, ne_eqb, nat_tests, AccountId, IsBelowAll, Rises, IsBelowAll-through, one_more, Rises-at, Account, account_below, is_before, is_named, is_numbered, with_account, AreNumbers, number_below}
+use Rattle.mum_state.proofs.{Members.any_inserted, Members.none_passes, Orderly.below_through, Orderly.other_way, Orderly.two_names, Orderly.two_names_back}
 
--- ---- a name is found by halving
+-- ---- a name is found by binary search
 
 -- an account under the name
 abbrev under : List ℕ → Account → Account
@@ -121,7 +109,7 @@ numbers_with new accounts numbers none are = record {
       ∙ ap (list_any (is_numbered number)) (inserted_is new accounts);
 }
 
--- ---- a number is found by halving
+-- ---- a number is found by binary search
 
 pub numbers_rise : (numbers : List AccountId) → Rises number_below numbers → (i j : ℕ) (d : AccountId) → i < j → j < length numbers → (get_or numbers i d).0 < (get_or numbers j d).0
 numbers_rise numbers rise i j d lt within =

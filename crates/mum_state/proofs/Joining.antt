@@ -1,23 +1,12 @@
 -- A session more.
-use Rattle.std.proofs.Common.{◌≡◌, ℕ, ◌↔◌, ◌&&◌, Bool, true, List, [], refl, ap, Option, is_none, is_some}
-use Rattle.std.proofs.lemmas.Bool.{and_from, and_parts}
-use Rattle.mum_base.specs.declared.number.AccountId.{AccountId}
-use Rattle.mum_tree.specs.Rows.{is_there}
-use Rattle.mum_users.specs.declared.user.User.{User}
-use Rattle.mum_users.specs.Sessions.{free_slot, join_fault, joined, next_number, next_slot}
-use Rattle.mum_users.specs.State.{are_tokens, is_context, joining}
-use Rattle.mum_users.proofs.Refusals.{joins_where_proper_lem}
-use Rattle.mum_state.specs.Proper.{IsProper, is_short, is_sound_user, is_text}
-use Rattle.mum_state.specs.State.{StateValue}
-use Rattle.mum_state.proofs.Givens.{is_none_of, none_is}
-use Rattle.mum_state.proofs.Listed.{all_insert, inserted_passes}
-use Rattle.mum_state.proofs.Parted.{with_roster}
+use Rattle.mum_state.proofs.Common.{◌≡◌, ℕ, ◌↔◌, ◌&&◌, Bool, true, List, [], refl, ap, Option, is_none, is_some, and_from, and_parts, AccountId, is_there, User, free_slot, join_fault, joined, next_number, next_slot, are_tokens, is_context, joining, joins_where_proper_lem, IsProper, is_short, is_sound_user, is_text, StateValue}
+use Rattle.mum_state.proofs.{Givens.is_none_of, Givens.none_is, Listed.all_insert, Listed.inserted_passes, Parted.with_roster}
 
 -- the row of the session that joins
 abbrev new_user : StateValue → List ℕ → Option AccountId → List (List ℕ) → User
 new_user state name account tokens = joining (next_number state.roster) (next_slot state.roster) name account tokens
 
--- nothing stands against it, its name is short, and its tokens are within the limits
+-- nothing forbids it, its name is short, and its tokens are within the limits
 abbrev may_join : StateValue → List ℕ → List (List ℕ) → Bool
 may_join state name tokens = is_none (join_fault state.roster name) && is_short name && are_tokens tokens
 

@@ -1,8 +1,5 @@
 -- Whether something is found.
-use Rattle.std.proofs.Common.{◌≡◌, ◌||◌, Bool, true, false, cond, List, [], ◌∷◌, not, refl, sym, Option, Some, None, Bor, find, is_none, is_some}
-use Rattle.std.specs.List.{list_any}
-use Rattle.std.specs.Option.{option_copied}
-use Rattle.std.proofs.lemmas.Bool.{false≢true}
+use Rattle.mum_state.proofs.Common.{◌≡◌, ◌||◌, Bool, true, false, cond, List, [], ◌∷◌, not, refl, sym, Option, Some, None, Bor, find, is_none, is_some, list_any, option_copied, false≢true}
 
 pub copied_some : {X : Type 0} (o : Option (Bor X)) → is_some o ≡ is_some (option_copied o)
 copied_some None = refl

@@ -1,41 +1,6 @@
 -- Edits that fit keep a state proper, and an edit fits where it leaves one.
-use Rattle.std.proofs.Common.{◌≡◌, ◌<◌, ◌↔◌, ◌&&◌, Bool, true, List, [], ◌∷◌, refl, sym, subst}
-use Rattle.std.specs.List.{list_all, list_any}
-use Rattle.std.specs.Option.{option_map_or}
-use Rattle.std.proofs.lemmas.Bool.{and_parts, ltb-true}
-use Rattle.mum_base.specs.declared.number.ChannelId.{ChannelId}
-use Rattle.mum_base.specs.declared.number.SessionId.{SessionId}
-use Rattle.mum_tree.specs.Rows.{is_there}
-use Rattle.mum_users.specs.State.{has_number}
-use Rattle.mum_state.specs.declared.edit.Edit.{Edit}
-use Rattle.mum_state.specs.declared.edit.Edit.TheVariants.{AddAccount, EditChannel, Join, Kick, Leave, MakeChannel, RemoveChannel, SetAcl, SetLimits, SetServer, SetTarget, SetTokens, SetUser, Text}
-use Rattle.mum_state.specs.After.{all_fit}
-use Rattle.mum_state.specs.Applied.{applied}
-use Rattle.mum_state.specs.Counts.{counts_after}
-use Rattle.mum_state.specs.Emptied.{without_emptied}
-use Rattle.mum_state.specs.Fits.{fits, gives_right_numbers, is_countable, sets_properly}
-use Rattle.mum_state.specs.Laws.{FitsWhereProper, KeepsProper}
-use Rattle.mum_state.specs.Named.{named_account, named_channels, named_sessions, names_there}
-use Rattle.mum_state.specs.Parts.{channel_parts, user_parts}
-use Rattle.mum_state.specs.Proper.{IsProper}
-use Rattle.mum_state.specs.Set.{set_by}
-use Rattle.mum_state.specs.State.{StateValue, has_account}
-use Rattle.mum_state.specs.Suppression.{with_clearing, with_suppression}
-use Rattle.mum_state.proofs.Accounted.{accounts_both_ways}
-use Rattle.mum_state.proofs.Altering.{alters_both_ways}
-use Rattle.mum_state.proofs.Closed.{emptied_proper}
-use Rattle.mum_state.proofs.Editing.{changes_both_ways}
-use Rattle.mum_state.proofs.Fitting.{fit_from, fit_parts}
-use Rattle.mum_state.proofs.Holding.{policies_both_ways, targets_both_ways, tokens_both_ways}
-use Rattle.mum_state.proofs.Joining.{joins_both_ways}
-use Rattle.mum_state.proofs.Leaving.{left_proper}
-use Rattle.mum_state.proofs.Limiting.{limits_both_ways}
-use Rattle.mum_state.proofs.Making.{making_from, making_to}
-use Rattle.mum_state.proofs.Parted.{with_counts}
-use Rattle.mum_state.proofs.Removing.{removals_both_ways}
-use Rattle.mum_state.proofs.Serving.{servers_both_ways}
-use Rattle.mum_state.proofs.Suppressed.{heard_after, heard_proper, silent_after}
-use Rattle.mum_state.proofs.Tally.{counts_back, counts_fit}
+use Rattle.mum_state.proofs.Common.{◌≡◌, ◌<◌, ◌↔◌, ◌&&◌, Bool, true, List, [], ◌∷◌, refl, sym, subst, list_all, list_any, option_map_or, and_parts, ltb-true, ChannelId, SessionId, is_there, has_number, Edit, AddAccount, EditChannel, Join, Kick, Leave, MakeChannel, RemoveChannel, SetAcl, SetLimits, SetServer, SetTarget, SetTokens, SetUser, Text, all_fit, applied, counts_after, without_emptied, fits, gives_right_numbers, is_countable, sets_properly, FitsWhereProper, KeepsProper, named_account, named_channels, named_sessions, names_there, channel_parts, user_parts, IsProper, set_by, StateValue, has_account, with_clearing, with_suppression}
+use Rattle.mum_state.proofs.{Accounted.accounts_both_ways, Altering.alters_both_ways, Closed.emptied_proper, Editing.changes_both_ways, Fitting.fit_from, Fitting.fit_parts, Holding.policies_both_ways, Holding.targets_both_ways, Holding.tokens_both_ways, Joining.joins_both_ways, Leaving.left_proper, Limiting.limits_both_ways, Making.making_from, Making.making_to, Parted.with_counts, Removing.removals_both_ways, Serving.servers_both_ways, Suppressed.heard_after, Suppressed.heard_proper, Suppressed.silent_after, Tally.counts_back, Tally.counts_fit}
 
 -- ---- what is named
 

@@ -1,30 +1,6 @@
 -- Policies lie at the places of their channels, whatever becomes of the channels.
-use Rattle.std.proofs.Common.{◌≡◌, ◌≢◌, ℕ, suc, ◌<◌, ◌==◌, ◌&&◌, ◌++◌, Bool, true, false, cond, List, [], ◌∷◌, length, get_or, set, map, refl, sym, ap, ◌∙◌, arith, Option, Some, None, inl, inr}
-use Rattle.std.specs.List.{filter}
-use Rattle.std.specs.Option.{option_map}
-use Rattle.std.proofs.lemmas.Bool.{both_ways, cases_order, eq-eqb, eqb-true, or_parts}
-use Rattle.std.proofs.lemmas.List.{get_or-set_other, get_or-set_same, get_or_default, map-append}
-use Rattle.std.proofs.lemmas.List.Folds.{list_any-append, list_any_at}
-use Rattle.mum_base.specs.declared.number.ChannelId.{ChannelId}
-use Rattle.mum_policy.specs.declared.policy.ChannelPolicy.{ChannelPolicy}
-use Rattle.mum_tree.specs.declared.channel.Channel.{Channel}
-use Rattle.mum_tree.specs.declared.channel.ChannelInfo.{ChannelInfo}
-use Rattle.mum_tree.specs.declared.channel.Row.{Row}
-use Rattle.mum_tree.specs.Places.{has_place, least_place}
-use Rattle.mum_tree.specs.Proper.{IsProper as IsProperTree}
-use Rattle.mum_tree.specs.Rows.{is_there, number, row_of}
-use Rattle.mum_tree.specs.State.{TreeState, changed, new_row, with_info, with_new}
-use Rattle.mum_tree.proofs.Changed.{number_found}
-use Rattle.mum_tree.proofs.Find.{row_of_at}
-use Rattle.mum_tree.proofs.Places.{free_unhad, least_free}
-use Rattle.mum_state.specs.Set.{set_policy, with_policy}
-use Rattle.mum_state.specs.State.{open_policy, policy_row}
-use Rattle.mum_state.specs.Stored.{policies_by_place}
-use Rattle.mum_state.proofs.ByPlace.{laid, stored_at}
-use Rattle.mum_state.proofs.Gone.{rows_of, there_of}
-use Rattle.mum_state.proofs.Listed.{any_map, filter_same, map_filter, map_same, map_twice}
-use Rattle.mum_state.proofs.Members.{map_agree}
-use Rattle.mum_state.proofs.Quiet.{rows_there}
+use Rattle.mum_state.proofs.Common.{◌≡◌, ◌≢◌, ℕ, suc, ◌<◌, ◌==◌, ◌&&◌, ◌++◌, Bool, true, false, cond, List, [], ◌∷◌, length, get_or, set, map, refl, sym, ap, ◌∙◌, arith, Option, Some, None, inl, inr, filter, option_map, both_ways, cases_order, eq-eqb, eqb-true, or_parts, get_or-set_other, get_or-set_same, get_or_default, map-append, list_any-append, list_any_at, ChannelId, ChannelPolicy, Channel, ChannelInfo, Row, has_place, least_place, IsProperTree, is_there, number, row_of, TreeState, changed, new_row, with_info, with_new, number_found, row_of_at, free_unhad, least_free, set_policy, with_policy, open_policy, policy_row, policies_by_place}
+use Rattle.mum_state.proofs.{ByPlace.laid, ByPlace.stored_at, Gone.rows_of, Gone.there_of, Listed.any_stays, Listed.filter_same, Listed.map_filter, Listed.map_same, Listed.map_twice, Members.map_agree, Quiet.rows_there}
 
 -- the open policy lies at each place that no channel has
 abbrev pub IsOpenWhereFree : List ChannelPolicy → List Row → Type 0
@@ -47,7 +23,7 @@ module _ (id : ChannelId) (change : Channel → Channel) (keeps : (channel : Cha
   stays place row false = refl
 
   pub had_changed : (rows : List Row) (place : ℕ) → has_place (changed id change rows) place ≡ has_place rows place
-  had_changed rows place = any_map (λ row. row.place == place) (λ row. cond (number row == id.0) (record row { channel = change row.channel }) row) (λ row. stays place row (number row == id.0)) rows
+  had_changed rows place = any_stays (λ row. row.place == place) (λ row. cond (number row == id.0) (record row { channel = change row.channel }) row) (λ row. stays place row (number row == id.0)) rows
 
   pub free_changed : (stored : List ChannelPolicy) (rows : List Row) → IsOpenWhereFree stored rows → IsOpenWhereFree stored (changed id change rows)
   free_changed stored rows free place none = free place (sym (had_changed rows place) ∙ none)
@@ -91,7 +67,7 @@ laid_left before after rows stays kept =
 
 -- ---- another policy
 
--- a row that is found stands somewhere
+-- a row that is found is somewhere
 record StandsAt (rows : List Row) (row : Row) : Type 0 where
   at : ℕ
   within : at < length rows

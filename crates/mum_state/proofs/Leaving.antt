@@ -1,14 +1,6 @@
 -- A session less.
-use Rattle.std.proofs.Common.{not}
-use Rattle.mum_base.specs.declared.number.SessionId.{SessionId}
-use Rattle.mum_tree.specs.Rows.{is_there}
-use Rattle.mum_users.specs.Sessions.{left}
-use Rattle.mum_users.specs.State.{has_number, is_of_session}
-use Rattle.mum_users.proofs.Rosters.{IsProper-left}
-use Rattle.mum_state.specs.Proper.{IsProper, is_sound_user}
-use Rattle.mum_state.specs.State.{StateValue}
-use Rattle.mum_state.proofs.Listed.{all_filter}
-use Rattle.mum_state.proofs.Parted.{with_roster}
+use Rattle.mum_state.proofs.Common.{not, SessionId, is_there, left, has_number, is_of_session, IsProper-left, IsProper, is_sound_user, StateValue}
+use Rattle.mum_state.proofs.{Listed.all_filter, Parted.with_roster}
 
 -- without a session the state stays proper
 pub left_proper : (state : StateValue) (session : SessionId) → IsProper state → IsProper (record state { roster = left state.roster session })

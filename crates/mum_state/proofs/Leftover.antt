@@ -1,42 +1,6 @@
 -- The temporary channel that an edit empties is that of the session that goes or enters another.
-use Rattle.std.proofs.Common.{◌≡◌, ℕ, zero, suc, ◌<◌, ◌==◌, ◌&&◌, ◌||◌, not, Bool, true, false, cond, List, [], ◌∷◌, ◌++◌, length, get_or, map, refl, sym, ap, ◌∙◌, arith, Option, Some, None, find, is_some}
-use Rattle.std.specs.List.{All, filter, list_all, list_any}
-use Rattle.std.specs.Option.{option_and_then, option_map_or}
-use Rattle.std.proofs.lemmas.Bool.{and_from, and_parts, both_ways, eq-eqb, eqb-true, false≢true, not-true, or_right}
-use Rattle.std.proofs.lemmas.List.Folds.{list_any_at}
-use Rattle.std.proofs.lemmas.Option.{none-some}
-use Rattle.mum_base.specs.declared.number.ChannelId.{ChannelId}
-use Rattle.mum_base.specs.declared.number.SessionId.{SessionId}
-use Rattle.mum_tree.specs.declared.channel.ChannelInfo.{ChannelInfo}
-use Rattle.mum_tree.specs.declared.channel.Row.{Row}
-use Rattle.mum_tree.specs.Refusals.{fault_of_remove, parent_of}
-use Rattle.mum_tree.specs.Rows.{Rise, is_below, is_temporary, is_there, number, row_of}
-use Rattle.mum_tree.specs.State.{changed, new_row, with_info, with_new, without_subtree}
-use Rattle.mum_tree.specs.Places.{least_place}
-use Rattle.mum_tree.proofs.Changed.{number_found}
-use Rattle.mum_tree.proofs.Edits.{some_row}
-use Rattle.mum_tree.proofs.Find.{row_of_at}
-use Rattle.mum_tree.proofs.Grown.{kind_kept}
-use Rattle.mum_tree.proofs.Shrunk.{remove_allowed}
-use Rattle.mum_tree.proofs.Upward.{the_root}
-use Rattle.mum_users.specs.declared.user.User.{User}
-use Rattle.mum_users.specs.Edit.{changed_user}
-use Rattle.mum_users.specs.State.{has_number, is_in}
-use Rattle.mum_state.specs.declared.edit.Edit.{Edit}
-use Rattle.mum_state.specs.declared.edit.Edit.TheVariants.{AddAccount, EditChannel, Join, Kick, Leave, MakeChannel, RemoveChannel, SetAcl, SetLimits, SetServer, SetTarget, SetTokens, SetUser, Text}
-use Rattle.mum_state.specs.Emptied.{empties, has_member, is_emptied, without_emptied}
-use Rattle.mum_state.specs.Followed.{is_left_empty, left_by, temporary_around, with_left_closed}
-use Rattle.mum_state.specs.Parts.{user_parts}
-use Rattle.mum_state.specs.Proper.{IsProper}
-use Rattle.mum_state.specs.Set.{moved_up, set_by, with_tree}
-use Rattle.mum_state.specs.State.{StateValue}
-use Rattle.mum_state.proofs.Closed.{found_passes, is_left}
-use Rattle.mum_state.proofs.Emptying.{one_emptied}
-use Rattle.mum_state.proofs.Gone.{there_without_subtree}
-use Rattle.mum_state.proofs.Members.{any_agree, any_inserted, any_mapped, found_in, found_member, none_passes}
-use Rattle.mum_state.proofs.Quiet.{nothing_emptied}
-use Rattle.mum_state.proofs.Renewing.{targeted_sessions}
-use Rattle.mum_state.proofs.Suppressed.{heard, heard_members}
+use Rattle.mum_state.proofs.Common.{◌≡◌, ℕ, zero, suc, ◌<◌, ◌==◌, ◌&&◌, ◌||◌, not, Bool, true, false, cond, List, [], ◌∷◌, ◌++◌, length, get_or, map, refl, sym, ap, ◌∙◌, arith, Option, Some, None, find, is_some, All, filter, list_all, list_any, option_and_then, option_map_or, and_from, and_parts, both_ways, eq-eqb, eqb-true, false≢true, not-true, or_right, list_any_at, none-some, ChannelId, SessionId, ChannelInfo, Row, fault_of_remove, parent_of, Rise, is_below, is_temporary, is_there, number, row_of, changed, new_row, with_info, with_new, without_subtree, least_place, number_found, some_row, row_of_at, kind_kept, remove_allowed, the_root, User, changed_user, has_number, is_in, Edit, AddAccount, EditChannel, Join, Kick, Leave, MakeChannel, RemoveChannel, SetAcl, SetLimits, SetServer, SetTarget, SetTokens, SetUser, Text, empties, has_member, is_emptied, without_emptied, is_left_empty, left_by, temporary_around, with_left_closed, user_parts, IsProper, moved_up, set_by, with_tree, StateValue}
+use Rattle.mum_state.proofs.{Closed.found_row_holds, Closed.is_left, Emptying.one_emptied, Gone.there_without_subtree, Members.any_agree, Members.any_inserted, Members.any_mapped, Members.found_in, Members.found_member, Members.none_passes, Quiet.nothing_emptied, Renewing.targeted_sessions, Suppressed.heard, Suppressed.heard_members}
 
 any_too : {X : Type 0} (p q : X → Bool) → ((x : X) → p x ≡ true → q x ≡ true) → (xs : List X) → list_any p xs ≡ true → list_any q xs ≡ true
 any_too p q so [] some = absurd (false≢true some)
@@ -63,7 +27,7 @@ same_channel one other is = ap (λ n. record { 0 = n }) (eqb-true one.0 other.0 
 
 -- ---- what is left where one session moves
 
--- no channel is left by all its members but this one, if one is told; and that is temporary, and had one
+-- no channel is left by all its members but this one, if one is reported; and that is temporary, and had one
 pub record IsLeftAlone (was now : List User) (rows : List Row) (left : Option ChannelId) : Type 0 where
   pub only : (other : ChannelId) → is_left was now rows other ≡ true → (id : ChannelId) × (left ≡ Some id) × (other.0 ≡ id.0)
   pub temporary : (id : ChannelId) → left ≡ Some id → is_temporary rows id ≡ true
@@ -320,7 +284,7 @@ one_is_emptied was now rows id rise left =
         let (row, found) = some_row (row_of rows id) (there (row_of rows id) (left_parts was now rows id left).temporary) in
         let same : row.channel.id ≡ id = ap (λ n. record { 0 = n }) (number_found rows id row found) in
         absurd (both_ways (is_left was now rows id)
-        (ap (is_left was now rows) (sym same) ∙ found_passes (λ one. is_left was now rows one.channel.id ≡ false) rows id row (none_of is) found) left)
+        (ap (is_left was now rows) (sym same) ∙ found_row_holds (λ one. is_left was now rows one.channel.id ≡ false) rows id row (none_of is) found) left)
       where
         none_of : list_any (λ row. is_left was now rows row.channel.id) rows ≡ false → All (λ row. is_left was now rows row.channel.id ≡ false) rows
         none_of none k d within = off (is_left was now rows (get_or rows k d).channel.id) refl
@@ -381,7 +345,7 @@ closed_by before state (Some id) proper alone = step (has_member state.roster.se
           is_empty = one_is_emptied before.roster.sessions state.roster.sessions state.tree.channels id proper.tree.rise left ∙ sym (ap not out);
         }
 
--- sessions that are heard anew are where they were
+-- sessions that are heard again are where they were
 pub alone_heard : (silent : User → Bool) (was now : List User) (rows : List Row) (left : Option ChannelId) → IsLeftAlone was now rows left → IsLeftAlone was (map (heard silent) now) rows left
 alone_heard silent was now rows left alone = record {
   only = λ other is. alone.only other (ap (λ b. is_temporary rows other && has_member was other && not b) (sym (heard_members silent now other)) ∙ is);

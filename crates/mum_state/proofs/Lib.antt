@@ -1,3 +1,5 @@
+mod Common
+pub mod Public
 pub mod Counting
 pub mod ByPlace
 pub mod Clearing

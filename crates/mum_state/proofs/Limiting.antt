@@ -1,17 +1,5 @@
 -- Other limits of sessions and of channels.
-use Rattle.std.proofs.Common.{◌≡◌, ◌≤◌, ◌<◌, ℕ, ◌&&◌, ◌↔◌, true, arith, leb}
-use Rattle.std.proofs.lemmas.List.Elements.{All-weaker}
-use Rattle.std.proofs.lemmas.Bool.{and_from, and_parts, le-leb, leb-true}
-use Rattle.mum_base.specs.declared.number.TheConstants.{PLACES, SLOTS}
-use Rattle.mum_tree.specs.declared.channel.Row.{Row}
-use Rattle.mum_tree.specs.Proper.{IsProper as IsProperTree}
-use Rattle.mum_tree.specs.State.{TreeState}
-use Rattle.mum_users.proofs.Rosters.{IsProper-limited}
-use Rattle.mum_state.specs.declared.edit.Edit.TheVariants.{SetLimits}
-use Rattle.mum_state.specs.Fits.{fits}
-use Rattle.mum_state.specs.Proper.{IsProper}
-use Rattle.mum_state.specs.Set.{with_limits}
-use Rattle.mum_state.specs.State.{StateValue}
+use Rattle.mum_state.proofs.Common.{◌≡◌, ◌≤◌, ◌<◌, ℕ, ◌&&◌, ◌↔◌, true, arith, leb, All-weaker, and_from, and_parts, le-leb, leb-true, PLACES, SLOTS, Row, IsProperTree, TreeState, IsProper-limited, SetLimits, fits, IsProper, with_limits, StateValue}
 use Rattle.mum_state.proofs.Fitting.{fit_parts}
 
 -- limits that a state may have: neither is below that of before, nor above the greatest

@@ -1,7 +1,5 @@
 -- What a test says of all of a list, after the list changed.
-use Rattle.std.proofs.Common.{◌≡◌, ℕ, zero, suc, ◌&&◌, ◌||◌, not, Bool, true, false, cond, List, [], ◌∷◌, ◌++◌, map, refl, sym, ap, ◌∙◌, arith, insert}
-use Rattle.std.specs.List.{All, filter, list_all, list_any}
-use Rattle.std.proofs.lemmas.Bool.{and_from, and_parts, false≢true}
+use Rattle.mum_state.proofs.Common.{◌≡◌, ℕ, zero, suc, ◌&&◌, ◌||◌, not, Bool, true, false, cond, List, [], ◌∷◌, ◌++◌, map, refl, sym, ap, ◌∙◌, arith, insert, All, filter, list_all, list_any, and_from, and_parts, false≢true}
 
 -- a test that each element passes takes nothing away
 pub filter_all : {X : Type 0} (p : X → Bool) (xs : List X) → list_all p xs ≡ true → filter p xs ≡ xs
@@ -82,9 +80,9 @@ all_push p (y ∷ xs) x last all =
     and_from (p y) (list_all p (xs ++ x ∷ [])) parts.0 (all_push p xs x last parts.1)
 
 -- a test that a map leaves passes the same
-pub any_map : {X : Type 0} (p : X → Bool) (f : X → X) → ((x : X) → p (f x) ≡ p x) → (xs : List X) → list_any p (map f xs) ≡ list_any p xs
-any_map p f same [] = refl
-any_map p f same (x ∷ xs) = ap (λ b. b || list_any p (map f xs)) (same x) ∙ ap (λ b. p x || b) (any_map p f same xs)
+pub any_stays : {X : Type 0} (p : X → Bool) (f : X → X) → ((x : X) → p (f x) ≡ p x) → (xs : List X) → list_any p (map f xs) ≡ list_any p xs
+any_stays p f same [] = refl
+any_stays p f same (x ∷ xs) = ap (λ b. b || list_any p (map f xs)) (same x) ∙ ap (λ b. p x || b) (any_stays p f same xs)
 
 pub map_same : {X Y : Type 0} (f g : X → Y) → ((x : X) → f x ≡ g x) → (xs : List X) → map f xs ≡ map g xs
 map_same f g same [] = refl
@@ -111,7 +109,7 @@ filter_same {X} p q r same (x ∷ xs) all =
     ap (λ (b : Bool). cond b (x ∷ filter p xs) (filter p xs)) (same x parts.0)
     ∙ ap (λ (ys : List X). cond (q x) (x ∷ ys) ys) (filter_same p q r same xs parts.1)
 
--- a change of those that a test tells leaves what all pass
+-- a change of those that a test picks leaves what all pass
 pub all_changed : {X : Type 0} (p q : X → Bool) (change : X → X) → ((x : X) → p x ≡ true → p (change x) ≡ true) → (xs : List X) → list_all p xs ≡ true → list_all p (map (λ x. cond (q x) (change x) x) xs) ≡ true
 all_changed {X} p q change so xs all = all_map p p (λ x. cond (q x) (change x) x) (λ x good. step x (q x) good) xs all
   where

@@ -1,33 +1,6 @@
 -- A channel more.
-use Rattle.std.proofs.Common.{◌≡◌, ◌≢◌, ℕ, ◌<◌, ◌≤◌, ◌&&◌, ◌++◌, Bool, true, false, cond, eqb, List, [], ◌∷◌, length, get_or, map, refl, sym, ap, subst, ◌∙◌, arith, Option, Some, None, is_none, is_some}
-use Rattle.std.specs.List.{list_all}
-use Rattle.std.proofs.lemmas.Bool.{and_from, and_parts, eq-eqb}
-use Rattle.std.proofs.lemmas.List.{map-append}
-use Rattle.mum_base.specs.declared.number.ChannelId.{ChannelId}
-use Rattle.mum_base.specs.declared.number.SessionId.{SessionId}
-use Rattle.mum_tree.specs.declared.channel.Channel.{Channel}
-use Rattle.mum_tree.specs.declared.channel.ChannelInfo.{ChannelInfo}
-use Rattle.mum_tree.specs.declared.channel.Row.{Row}
-use Rattle.mum_tree.specs.Places.{least_place}
-use Rattle.mum_tree.specs.Proper.{IsProper as IsProperTree}
-use Rattle.mum_tree.specs.Refusals.{fault_of_add}
-use Rattle.mum_tree.specs.Rows.{is_there, number, row_of}
-use Rattle.mum_tree.specs.State.{TreeState, changed, new_row, plain_info, with_info, with_new}
-use Rattle.mum_tree.proofs.Back.{adds_both_ways}
-use Rattle.mum_tree.proofs.Changed.{changed_none}
-use Rattle.mum_tree.proofs.Edits.{informed, informed_proper, some_row}
-use Rattle.mum_tree.proofs.Grown.{row_of_old}
-use Rattle.mum_users.specs.declared.user.User.{User}
-use Rattle.mum_users.specs.Sessions.{placed}
-use Rattle.mum_users.specs.State.{has_number}
-use Rattle.mum_users.proofs.Rosters.{IsProper-changed}
-use Rattle.mum_state.specs.Proper.{IsProper, is_name, is_sound_channel, is_sound_policy, is_sound_user, is_text}
-use Rattle.mum_state.specs.Set.{with_made, with_maker_in}
-use Rattle.mum_state.specs.State.{PolicyRow, StateValue, policy_row}
-use Rattle.mum_state.proofs.Givens.{is_none_of, none_is}
-use Rattle.mum_state.proofs.Listed.{all_changed, all_push, all_too, last_passes}
-use Rattle.mum_state.proofs.Parted.{with_channels, with_roster}
-use Rattle.mum_state.proofs.Quiet.{rows_there}
+use Rattle.mum_state.proofs.Common.{◌≡◌, ◌≢◌, ℕ, ◌<◌, ◌≤◌, ◌&&◌, ◌++◌, Bool, true, false, cond, eqb, List, [], ◌∷◌, length, get_or, map, refl, sym, ap, subst, ◌∙◌, arith, Option, Some, None, is_none, is_some, list_all, and_from, and_parts, eq-eqb, map-append, ChannelId, SessionId, Channel, ChannelInfo, Row, least_place, IsProperTree, fault_of_add, is_there, number, row_of, TreeState, changed, new_row, plain_info, with_info, with_new, adds_both_ways, changed_none, informed, informed_proper, some_row, row_of_old, User, placed, has_number, IsProper-changed, IsProper, is_name, is_sound_channel, is_sound_policy, is_sound_user, is_text, with_made, with_maker_in, PolicyRow, StateValue, policy_row}
+use Rattle.mum_state.proofs.{Givens.is_none_of, Givens.none_is, Listed.all_changed, Listed.all_push, Listed.all_too, Listed.last_passes, Parted.with_channels, Parted.with_roster, Quiet.rows_there}
 
 -- the row of the new channel
 abbrev made_row : TreeState → ChannelId → ChannelId → List ℕ → Bool → ChannelInfo → Row
@@ -83,7 +56,7 @@ module _ (tree : TreeState) (id parent : ChannelId) (name : List ℕ) (temporary
       ap (λ (rows : List Row). is_there rows id) rows_made
       ∙ last_passes (λ row. is_there all row.channel.id) tree.channels (made_row tree id parent name temporary info) (rows_there all)
 
--- nothing stands against the new channel, and its texts are as they may be
+-- nothing forbids the new channel, and its texts are as they may be
 abbrev pub may_make : StateValue → ChannelId → ChannelId → List ℕ → ChannelInfo → Bool
 may_make state id parent name info =
     is_none (fault_of_add state.tree id parent name) && is_name name && is_text info.description
@@ -130,7 +103,7 @@ placed_proper state session channel proper there =
     (all_changed (λ user. is_there state.tree.channels user.channel) (has_number session) enter (λ user was. there) state.roster.sessions proper.inside)
     proper.listening
 
--- nothing stands against a new channel exactly where the state with it, its maker in it if it is temporary, is proper
+-- nothing forbids a new channel exactly where the state with it, its maker in it if it is temporary, is proper
 pub making_to : (state : StateValue) (id parent : ChannelId) (name : List ℕ) (temporary : Bool) (info : ChannelInfo) (maker : Option SessionId) → IsProper state → state.tree.greatest < id.0 → may_make state id parent name info ≡ true
     → IsProper (with_maker_in (with_made state (made_tree state.tree id parent name temporary info) id) id temporary maker)
 making_to state id parent name temporary info None proper above may = made_to state id parent name temporary info proper above may

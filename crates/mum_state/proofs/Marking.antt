@@ -1,42 +1,7 @@
 -- Marks and counts of slots, one after the other; and sessions that are heard again.
-use Rattle.std.proofs.Common.{◌≡◌, ℕ, zero, suc, ◌+◌, ◌<◌, ◌≤◌, ◌==◌, ◌&&◌, ◌||◌, ◌++◌, not, Bool, true, false, cond, List, [], ◌∷◌, length, length-set, get_or, set, take, drop, map, replicate, refl, sym, ap, subst, ◌∙◌, arith, add-one, zero-add, Option, Some, None, is_none, ℤ, ◌⊎◌, inl, inr}
-use Rattle.std.specs.List.{All, count_by, list_all, list_any}
-use Rattle.std.proofs.lemmas.Bool.{and_parts, cases_eq, eq-eqb, eqb-true, false≢true, ltb-true, ne_eqb, not-true}
-use Rattle.std.proofs.lemmas.List.{get_or-set_other, get_or-set_same}
-use Rattle.std.proofs.lemmas.List.Folds.{list_any_more}
-use Rattle.std.specs.Prelude.{nat_lt}
-use Rattle.mum_base.specs.declared.number.TheConstants.{SLOTS}
-use Rattle.mum_base.specs.declared.number.AccountId.{AccountId}
-use Rattle.mum_base.specs.declared.number.ChannelId.{ChannelId}
-use Rattle.mum_base.specs.declared.number.SessionId.{SessionId}
-use Rattle.mum_base.specs.declared.number.Slot.{Slot}
-use Rattle.mum_tree.specs.declared.channel.ChannelInfo.{ChannelInfo}
-use Rattle.mum_tree.specs.Change.{Change, fault_of_edit}
-use Rattle.mum_tree.specs.Refusals.{fault_of_add, fault_of_remove}
-use Rattle.mum_tree.specs.Rows.{is_there}
-use Rattle.mum_users.specs.declared.user.User.{User}
-use Rattle.mum_users.specs.Edit.{UserEdit, edit_fault}
-use Rattle.mum_users.specs.Proper.{IsProper, SlotsRise}
-use Rattle.mum_state.specs.declared.account.TheConstants.{ACCOUNT_LIMIT}
-use Rattle.mum_state.specs.declared.edit.Edit.TheVariants.{AddAccount, MakeChannel, RemoveChannel}
-use Rattle.mum_state.specs.declared.renewed.Renewed.TheVariants.{Nobody, One}
-use Rattle.mum_state.specs.Channels.{channels_of, speaks_where_in}
-use Rattle.mum_state.specs.Counts.{raised_slots, raised_where}
-use Rattle.mum_state.specs.Fits.{fits, holds_of_given}
-use Rattle.mum_state.specs.Parts.{channel_parts, user_parts}
-use Rattle.mum_state.specs.Permissions.{may_speak}
-use Rattle.mum_state.specs.Proper.{is_name, is_short, is_text}
-use Rattle.mum_users.specs.Sessions.{absent_fault, session_at, suppressed}
-use Rattle.mum_users.specs.declared.fault.UserFault.TheVariants.{NoSession}
-use Rattle.mum_users.specs.State.{has_number, has_slot, is_context}
-use Rattle.mum_users.proofs.Counts.{count_by-cons}
-use Rattle.mum_state.specs.Renewed.{heard_again, is_renewed_slot}
-use Rattle.mum_state.specs.State.{StateValue, has_account, is_named, is_numbered}
-use Rattle.mum_state.specs.Suppression.{heard_anew}
-use Rattle.mum_state.proofs.Each.{each_both, each_find, each_passes, each_so, found_passes, map_each, map_stays, none_found, only_found, only_one, passing_any}
-use Rattle.mum_state.proofs.Fitting.{fit_parts}
-use Rattle.mum_state.proofs.Givens.{none_is}
-use Rattle.mum_state.proofs.Members.{or_false}
+use Rattle.mum_state.proofs.Common.{◌≡◌, ℕ, zero, suc, ◌+◌, ◌<◌, ◌≤◌, ◌==◌, ◌&&◌, ◌||◌, ◌++◌, not, Bool, true, false, cond, List, [], ◌∷◌, length, length-set, get_or, set, take, drop, map, replicate, refl, sym, ap, subst, ◌∙◌, arith, add-one, zero-add, Option, Some, None, is_none, ℤ, ◌⊎◌, inl, inr, All, count_by, list_all, list_any, and_parts, cases_eq, eq-eqb, eqb-true, false≢true, ltb-true, ne_eqb, not-true, get_or-set_other, get_or-set_same, list_any_more, nat_lt, SLOTS, AccountId, ChannelId, SessionId, Slot, ChannelInfo, Change, fault_of_edit, fault_of_add, fault_of_remove, is_there, User, UserEdit, edit_fault, SlotsRise, ACCOUNT_LIMIT, AddAccount, MakeChannel, RemoveChannel, Nobody, One, channels_of, speaks_where_in, raised_slots, raised_where, fits, holds_of_given, channel_parts, user_parts, may_speak, is_name, is_short, is_text, absent_fault, session_at, suppressed, NoSession, has_number, has_slot, is_context, count_by-cons, heard_again, is_renewed_slot, StateValue, has_account, is_named, is_numbered, heard_anew}
+use Rattle.mum_users.specs.Proper.{IsProper}
+use Rattle.mum_state.proofs.{Each.each_both, Each.each_find, Each.each_passes, Each.each_so, Each.found_passes, Each.map_each, Each.map_stays, Each.none_found, Each.only_found, Each.only_one, Each.passing_any, Fitting.fit_parts, Givens.none_is, Members.or_false}
 
 -- ---- counts
 

@@ -1,13 +1,5 @@
 -- Sessions by their numbers, of which no two have one.
-use Rattle.std.proofs.Common.{◌≡◌, ℕ, zero, suc, ◌≤◌, ◌==◌, ◌&&◌, ◌||◌, not, Bool, true, false, cond, List, [], ◌∷◌, get_or, map, insert, refl, sym, ap, ◌∙◌, arith, Some, None, find}
-use Rattle.std.specs.List.{All, count_by, list_any}
-use Rattle.std.proofs.lemmas.Bool.{eq-eqb, false≢true, or_right}
-use Rattle.std.proofs.lemmas.List.Folds.{list_any_at}
-use Rattle.mum_base.specs.declared.number.SessionId.{SessionId}
-use Rattle.mum_users.specs.declared.user.User.{User}
-use Rattle.mum_users.specs.State.{has_number, is_in}
-use Rattle.mum_users.proofs.Counts.{count_by-cons, some_from}
-use Rattle.mum_state.specs.Suppression.{is_newcomer}
+use Rattle.mum_state.proofs.Common.{◌≡◌, ℕ, zero, suc, ◌≤◌, ◌==◌, ◌&&◌, ◌||◌, not, Bool, true, false, cond, List, [], ◌∷◌, get_or, map, insert, refl, sym, ap, ◌∙◌, arith, Some, None, find, All, count_by, list_any, eq-eqb, false≢true, or_right, list_any_at, SessionId, User, has_number, is_in, count_by-cons, some_from, is_newcomer}
 
 -- ---- tests that agree
 

@@ -1,18 +1,5 @@
 -- The greatest numbers of channels and of sessions never fall.
-use Rattle.std.proofs.Common.{◌≡◌, ℕ, ◌≤◌, ◌&&◌, Bool, true, false, [], ◌∷◌, Some, None, refl, arith, if◌then◌else◌, IsTrue}
-use Rattle.std.proofs.lemmas.Bool.{and_parts, false≢true}
-use Rattle.std.proofs.lemmas.Bool.Decides.{nat_tests}
-use Rattle.mum_users.specs.State.{RosterState}
-use Rattle.mum_state.specs.declared.edit.Edit.{Edit}
-use Rattle.mum_state.specs.declared.edit.Edit.TheVariants.{Join, MakeChannel, SetTarget}
-use Rattle.mum_state.specs.After.{all_fit, led_to}
-use Rattle.mum_state.specs.Applied.{applied}
-use Rattle.mum_state.specs.Fits.{fits, gives_right_numbers, is_countable, sets_properly}
-use Rattle.mum_state.specs.Laws.{NumbersNeverFall}
-use Rattle.mum_state.specs.Named.{names_there}
-use Rattle.mum_state.specs.Set.{set_by}
-use Rattle.mum_state.specs.State.{StateValue}
-use Rattle.mum_state.specs.Suppression.{with_clearing, with_suppression}
+use Rattle.mum_state.proofs.Common.{◌≡◌, ℕ, ◌≤◌, ◌&&◌, Bool, true, false, [], ◌∷◌, Some, None, refl, arith, if◌then◌else◌, IsTrue, and_parts, false≢true, nat_tests, RosterState, Edit, Join, MakeChannel, SetTarget, all_fit, led_to, applied, fits, gives_right_numbers, is_countable, sets_properly, NumbersNeverFall, names_there, set_by, StateValue, with_clearing, with_suppression}
 use Rattle.mum_state.proofs.Clearing.{by_clearing}
 
 -- the second of four

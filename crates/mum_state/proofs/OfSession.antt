@@ -1,25 +1,6 @@
 -- What an edit of a session and an edit of a channel are, by their parts.
-use Rattle.std.proofs.Common.{◌≡◌, ◌&&◌, Bool, true, false, List, [], ◌∷◌, refl, sym, ap, subst, ◌∙◌, Option, Some, None, is_none}
-use Rattle.std.specs.Option.{option_map}
-use Rattle.std.proofs.lemmas.Bool.{and_parts}
-use Rattle.std.proofs.lemmas.Option.{none-some, same_Some}
-use Rattle.mum_base.specs.declared.number.ChannelId.{ChannelId}
-use Rattle.mum_base.specs.declared.number.SessionId.{SessionId}
-use Rattle.mum_tree.specs.Change.{Change, fault_of_edit}
-use Rattle.mum_users.specs.declared.user.User.{User}
-use Rattle.mum_users.specs.Edit.{UserEdit, edit_fault, edited}
-use Rattle.mum_users.specs.State.{is_context}
-use Rattle.mum_state.specs.declared.edit.Edit.{Edit}
-use Rattle.mum_state.specs.declared.edit.Edit.TheVariants.{EditChannel, SetUser}
-use Rattle.mum_state.specs.Fits.{edits_channel_properly, edits_session_properly, fits, holds_of_given, sets_properly}
-use Rattle.mum_state.specs.Kinds.{sets_tokens_of}
-use Rattle.mum_state.specs.Named.{named_sessions}
-use Rattle.mum_state.specs.Parts.{ChannelEdit, SessionEdit, channel_change, channel_edit, session_edit, user_change}
-use Rattle.mum_state.specs.Proper.{is_name, is_text}
-use Rattle.mum_state.specs.Set.{set_by}
-use Rattle.mum_state.specs.State.{StateValue}
-use Rattle.mum_state.proofs.Fitting.{fit_parts}
-use Rattle.mum_state.proofs.Givens.{none_is}
+use Rattle.mum_state.proofs.Common.{◌≡◌, ◌&&◌, Bool, true, false, List, [], ◌∷◌, refl, sym, ap, subst, ◌∙◌, Option, Some, None, is_none, option_map, and_parts, none-some, same_Some, ChannelId, SessionId, Change, fault_of_edit, User, UserEdit, edit_fault, edited, is_context, Edit, EditChannel, SetUser, edits_channel_properly, edits_session_properly, fits, holds_of_given, sets_properly, sets_tokens_of, named_sessions, ChannelEdit, SessionEdit, channel_change, channel_edit, session_edit, user_change, is_name, is_text, set_by, StateValue}
+use Rattle.mum_state.proofs.{Fitting.fit_parts, Givens.none_is}
 
 -- what it is to be an edit of this session
 pub record IsOfSession (state : StateValue) (edit : Edit) (user : SessionEdit) : Type 0 where

@@ -1,21 +1,5 @@
 -- Accounts stay in order, and apart, exactly where a new one has a name and a number of its own.
-use Rattle.std.proofs.Common.{◌≡◌, ℕ, suc, ◌||◌, Bool, true, false, eqb, List, [], ◌∷◌, length, refl, sym, ap, subst, ◌∙◌, arith, IsTrue, is_lt, nat_cmp, Ordering, Less, Equal, Greater}
-use Rattle.std.specs.Cmp.Lexicographic.{slice_cmp}
-use Rattle.std.specs.List.{All, AllPairs, list_all, list_any}
-use Rattle.std.specs.Ordering.{ordering_reverse}
-use Rattle.std.specs.Str.{bytes_eq}
-use Rattle.std.proofs.lemmas.Bool.{and_from, and_parts, both_ways, eq-eqb, false≢true, ne_eqb, or_parts}
-use Rattle.std.proofs.lemmas.Cmp.{nat_list_cmp_total, tied_itself}
-use Rattle.std.proofs.lemmas.List.Elements.{All-cons, All-head, All-nil, All-tail}
-use Rattle.std.proofs.lemmas.List.Kept.{AllPairs-cons}
-use Rattle.std.proofs.lemmas.Map.Lookups.{exact_bytes}
-use Rattle.std.proofs.lemmas.Slice.Eq.{bytes_eq-Decides}
-use Rattle.mum_tree.proofs.Find.{AllPairs-tail}
-use Rattle.mum_users.specs.Order.{IsBelowAll, Rises}
-use Rattle.mum_users.proofs.Orders.{IsBelowAll-through}
-use Rattle.mum_state.specs.declared.account.Account.{Account}
-use Rattle.mum_state.specs.Proper.{AreApart, is_short}
-use Rattle.mum_state.specs.State.{account_below, is_named, is_numbered, with_account}
+use Rattle.mum_state.proofs.Common.{◌≡◌, ℕ, suc, ◌||◌, Bool, true, false, eqb, List, [], ◌∷◌, length, refl, sym, ap, subst, ◌∙◌, arith, IsTrue, is_lt, nat_cmp, Ordering, Less, Equal, Greater, slice_cmp, All, AllPairs, list_all, list_any, ordering_reverse, bytes_eq, and_from, and_parts, both_ways, eq-eqb, false≢true, ne_eqb, or_parts, nat_list_cmp_total, tied_itself, All-cons, All-head, All-nil, All-tail, AllPairs-cons, exact_bytes, bytes_eq-Decides, AllPairs-tail, IsBelowAll, Rises, IsBelowAll-through, Account, AreApart, is_short, account_below, is_named, is_numbered, with_account}
 
 -- ---- the order of names
 

@@ -1,20 +1,6 @@
 -- A state stays proper where one of its parts becomes another that is as it may be.
-use Rattle.std.proofs.Common.{◌≡◌, ◌&&◌, not, Bool, true, false, List, map, refl, sym, ap, ◌∙◌}
-use Rattle.std.specs.List.{filter, list_all}
-use Rattle.mum_base.specs.declared.number.ChannelId.{ChannelId}
-use Rattle.mum_tree.specs.declared.channel.Row.{Row}
-use Rattle.mum_tree.specs.Proper.{IsProper as IsProperTree}
-use Rattle.mum_tree.specs.Rows.{is_there}
-use Rattle.mum_tree.specs.State.{TreeState, without_rows}
-use Rattle.mum_users.specs.Proper.{IsProper as IsProperRoster}
-use Rattle.mum_users.specs.State.{RosterState}
-use Rattle.mum_users.proofs.Rosters.{IsProper-fewer_listeners}
-use Rattle.mum_state.specs.Proper.{AreCounts, IsProper, is_sound_channel, is_sound_policy, is_sound_user}
-use Rattle.mum_state.specs.Set.{with_tree}
-use Rattle.mum_state.specs.State.{Counts, PolicyRow, StateValue}
-use Rattle.mum_state.proofs.Gone.{rows_of, there_of}
-use Rattle.mum_state.proofs.Listed.{all_filter, all_passing, filter_same, map_filter}
-use Rattle.mum_state.proofs.Quiet.{rows_there}
+use Rattle.mum_state.proofs.Common.{◌≡◌, ◌&&◌, not, Bool, true, false, List, map, refl, sym, ap, ◌∙◌, filter, list_all, ChannelId, Row, IsProperTree, is_there, TreeState, without_rows, IsProperRoster, RosterState, IsProper-fewer_listeners, AreCounts, IsProper, is_sound_channel, is_sound_policy, is_sound_user, with_tree, Counts, PolicyRow, StateValue}
+use Rattle.mum_state.proofs.{Gone.rows_of, Gone.there_of, Listed.all_filter, Listed.all_passing, Listed.filter_same, Listed.map_filter, Quiet.rows_there}
 
 -- another roster
 pub with_roster : (state : StateValue) (roster : RosterState) → IsProper state → IsProperRoster roster → list_all is_sound_user roster.sessions ≡ true

@@ -1,13 +1,5 @@
 -- Which edits are of a channel and of a session, and by which parts, worked out.
-use Rattle.std.proofs.Common.{◌≡◌, ℕ, Bool, true, false, List, [], ◌∷◌, ◌++◌, codes, map, replicate, Option, Some, None, is_some, refl}
-use Rattle.std.specs.Prelude.{pos}
-use Rattle.mum_tree.specs.Change.{Change}
-use Rattle.mum_tree.proofs.Scenes.{unchanged as same_channel}
-use Rattle.mum_policy.proofs.Scenes.{plain}
-use Rattle.mum_users.proofs.Scenes.{channel, channels, session, to_channel, unchanged}
-use Rattle.mum_state.specs.declared.edit.Edit.{Edit}
-use Rattle.mum_state.specs.declared.edit.Edit.TheVariants.{EditChannel, SetServer, SetUser, Text}
-use Rattle.mum_state.specs.Parts.{by_parts, channel_change, channel_edit, session_edit, user_change}
+use Rattle.mum_state.proofs.Common.{◌≡◌, ℕ, Bool, true, false, List, [], ◌∷◌, ◌++◌, codes, map, replicate, Option, Some, None, is_some, refl, pos, Change, same_channel, plain, channel, channels, session, to_channel, unchanged, Edit, EditChannel, SetServer, SetUser, Text, by_parts, channel_change, channel_edit, session_edit, user_change}
 use Rattle.mum_state.proofs.Scenes.{add_account, edit, join, kick, leave, make, remove, set_limits, set_policy, set_target, set_tokens, set_user}
 
 -- one edit of each kind, in the order of their declaration

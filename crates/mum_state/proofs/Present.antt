@@ -1,22 +1,6 @@
 -- What is there under a number that was given was there before.
-use Rattle.std.proofs.Common.{◌≡◌, ◌≤◌, ◌==◌, ℕ, true, List, [], ◌∷◌, refl, sym, ap, ◌∙◌, arith, IsTrue}
-use Rattle.std.specs.List.{list_any}
-use Rattle.std.proofs.lemmas.Bool.{eq-eqb, eqb-true}
-use Rattle.mum_base.specs.declared.number.ChannelId.{ChannelId}
-use Rattle.mum_base.specs.declared.number.SessionId.{SessionId}
-use Rattle.mum_tree.specs.declared.channel.Row.{Row}
-use Rattle.mum_tree.specs.Rows.{is_there, number}
-use Rattle.mum_users.specs.declared.user.User.{User}
-use Rattle.mum_users.specs.State.{has_number}
-use Rattle.mum_state.specs.declared.edit.Edit.{Edit}
-use Rattle.mum_state.specs.After.{all_fit, led_to}
-use Rattle.mum_state.specs.Applied.{applied}
-use Rattle.mum_state.specs.Laws.{PresentWasPresent}
-use Rattle.mum_state.specs.State.{StateValue}
-use Rattle.mum_state.proofs.Descent.{Descends, applied_descends, set_descends}
-use Rattle.mum_state.proofs.Each.{Each, each_any, each_self, each_so, some_found}
-use Rattle.mum_state.proofs.Numbers.{last_rises}
-use Rattle.mum_state.proofs.RowsStay.{IsOfRows, rows_stay}
+use Rattle.mum_state.proofs.Common.{◌≡◌, ◌≤◌, ◌==◌, ℕ, true, List, [], ◌∷◌, refl, sym, ap, ◌∙◌, arith, IsTrue, list_any, eq-eqb, eqb-true, ChannelId, SessionId, Row, is_there, number, User, has_number, Edit, all_fit, led_to, applied, PresentWasPresent, StateValue}
+use Rattle.mum_state.proofs.{Descent.Descends, Descent.applied_descends, Descent.set_descends, Each.Each, Each.each_any, Each.each_self, Each.each_so, Each.some_found, Numbers.last_rises, RowsStay.IsOfRows, RowsStay.rows_stay}
 
 -- ---- sessions
 

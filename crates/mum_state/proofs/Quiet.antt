@@ -1,17 +1,5 @@
 -- Where no channel is emptied, nothing goes: all that belongs to channels belongs to channels that are there.
-use Rattle.std.proofs.Common.{◌≡◌, ℕ, zero, suc, ◌<◌, ◌==◌, ◌&&◌, not, Bool, true, false, List, [], ◌∷◌, map, length, get_or, refl, sym, ap, ◌∙◌, arith, is_some, Some, if◌then◌else◌}
-use Rattle.std.specs.List.{All, filter, find, list_all}
-use Rattle.std.proofs.lemmas.Bool.{and_from, eq-eqb}
-use Rattle.std.proofs.lemmas.List.Folds.{list_all-map}
-use Rattle.mum_base.specs.declared.number.ChannelId.{ChannelId}
-use Rattle.mum_tree.specs.declared.channel.Row.{Row}
-use Rattle.mum_tree.specs.Proper.{IsBetween}
-use Rattle.mum_tree.specs.Rows.{is_there, number}
-use Rattle.mum_tree.specs.State.{Pair}
-use Rattle.mum_users.specs.declared.listening.ListenerPair.{ListenerPair}
-use Rattle.mum_state.specs.Emptied.{empties, is_emptied, without_emptied}
-use Rattle.mum_state.specs.Proper.{IsProper}
-use Rattle.mum_state.specs.State.{PolicyRow, StateValue}
+use Rattle.mum_state.proofs.Common.{◌≡◌, ℕ, zero, suc, ◌<◌, ◌==◌, ◌&&◌, not, Bool, true, false, List, [], ◌∷◌, map, length, get_or, refl, sym, ap, ◌∙◌, arith, is_some, Some, if◌then◌else◌, All, filter, find, list_all, and_from, eq-eqb, list_all-map, ChannelId, Row, IsBetween, is_there, number, Pair, ListenerPair, empties, is_emptied, without_emptied, IsProper, PolicyRow, StateValue}
 use Rattle.mum_state.proofs.Listed.{all_from, all_not, all_too, filter_all}
 
 -- an element that passes is found

@@ -1,8 +1,5 @@
 -- What a count that did not rise says of an edit.
-use Rattle.std.proofs.Common.{◌≡◌, ℕ, zero, suc, ◌+◌, ◌≤◌, Bool, true, false, List, [], ◌∷◌, refl, sym, ap, ◌∙◌, arith, Some, slice_get}
-use Rattle.std.proofs.lemmas.Option.{none-some, same_Some}
-use Rattle.mum_state.specs.Counts.{raised_slots, raised_where}
-use Rattle.mum_state.specs.Laws.{AreAtMost}
+use Rattle.mum_state.proofs.Common.{◌≡◌, ℕ, zero, suc, ◌+◌, ◌≤◌, Bool, true, false, List, [], ◌∷◌, refl, sym, ap, ◌∙◌, arith, Some, slice_get, none-some, same_Some, raised_slots, raised_where, AreAtMost}
 
 pub not_raised : (holds : Bool) (count : ℕ) → raised_where holds count ≤ count → holds ≡ false
 not_raised true count stays = absurd (omega (arith, stays))

@@ -1,22 +1,6 @@
 -- A channel that goes with all below it.
-use Rattle.std.proofs.Common.{◌≡◌, ◌↔◌, not, Bool, true, false, cond, eqb, map, refl, is_none, None, Some}
-use Rattle.mum_base.specs.declared.number.ChannelId.{ChannelId}
-use Rattle.mum_tree.specs.declared.fault.TreeFault.TheVariants.{NoChannel, RootFixed}
-use Rattle.mum_tree.specs.Refusals.{fault_of_remove, parent_of}
-use Rattle.mum_tree.specs.Rows.{is_below, is_there}
-use Rattle.mum_tree.specs.State.{TreeState, without_subtree}
-use Rattle.mum_tree.proofs.Back.{removes_both_ways}
-use Rattle.mum_tree.proofs.Edits.{none_stands}
-use Rattle.mum_users.specs.declared.user.User.{User}
-use Rattle.mum_users.specs.Proper.{deaf_is_mute}
-use Rattle.mum_users.proofs.Rosters.{IsProper-mapped, KeepsIdentity}
-use Rattle.mum_state.specs.Proper.{IsProper, is_sound_user}
-use Rattle.mum_state.specs.Set.{moved_up, with_members_moved_up, with_tree}
-use Rattle.mum_state.specs.State.{StateValue}
-use Rattle.mum_state.proofs.Givens.{is_none_of, none_is}
-use Rattle.mum_state.proofs.Gone.{moved_stay, moved_were}
-use Rattle.mum_state.proofs.Listed.{all_map}
-use Rattle.mum_state.proofs.Parted.{cut, with_roster}
+use Rattle.mum_state.proofs.Common.{◌≡◌, ◌↔◌, not, Bool, true, false, cond, eqb, map, refl, is_none, None, Some, ChannelId, NoChannel, RootFixed, fault_of_remove, parent_of, is_below, is_there, TreeState, without_subtree, removes_both_ways, none_stands, User, deaf_is_mute, IsProper-mapped, KeepsIdentity, IsProper, is_sound_user, moved_up, with_members_moved_up, with_tree, StateValue}
+use Rattle.mum_state.proofs.{Givens.is_none_of, Givens.none_is, Gone.moved_stay, Gone.moved_were, Listed.all_map, Parted.cut, Parted.with_roster}
 
 -- moving up changes the channel alone
 moved_keeps : (tree : TreeState) (id : ChannelId) → KeepsIdentity (moved_up tree id)
@@ -68,7 +52,7 @@ remove_to state id proper there allowed =
     ((removes_both_ways state.tree id proper.tree there).0 allowed)
     (moved_stay state.tree id state.roster.sessions proper.tree there under proper.inside)
 
--- nothing stands against a removal exactly where the state after it is proper
+-- nothing forbids a removal exactly where the state after it is proper
 pub removals_both_ways : (state : StateValue) (id : ChannelId) → IsProper state → is_there state.tree.channels id ≡ true
     → (is_none (fault_of_remove state.tree id) ≡ true) ↔ IsProper (with_tree (with_members_moved_up state id) (without_subtree state.tree id))
 removals_both_ways state id proper there = (

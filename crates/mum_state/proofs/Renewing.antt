@@ -1,47 +1,6 @@
--- For whom an edit starts anew what was computed of a session.
-use Rattle.std.proofs.Common.{◌≡◌, ℕ, ◌<◌, ◌≤◌, ◌==◌, ◌&&◌, ◌||◌, not, Bool, true, false, cond, List, length, get_or, map, refl, sym, ap, ap₂, ◌∙◌, arith, Option, Some, None, unwrap_or}
-use Rattle.std.specs.List.{All, count_by, filter, list_any}
-use Rattle.std.specs.Option.{option_map}
-use Rattle.std.proofs.lemmas.Bool.{and_parts, and_right, both_ways, eq-eqb, eqb-true, false≢true, ltb-true, ne_eqb, not-true, or_from}
-use Rattle.std.proofs.lemmas.List.Elements.{All-filter}
-use Rattle.std.proofs.lemmas.List.Folds.{list_any_at}
-use Rattle.std.proofs.lemmas.Option.{none-some, same_Some}
-use Rattle.mum_base.specs.declared.number.AccountId.{AccountId}
-use Rattle.mum_base.specs.declared.number.ChannelId.{ChannelId}
-use Rattle.mum_base.specs.declared.number.SessionId.{SessionId}
-use Rattle.mum_base.specs.declared.number.Slot.{Slot}
-use Rattle.mum_tree.specs.declared.channel.ChannelInfo.{ChannelInfo}
-use Rattle.mum_tree.specs.Proper.{IsProper as IsProperTree}
-use Rattle.mum_tree.specs.Refusals.{fault_of_remove, parent_of}
-use Rattle.mum_tree.specs.Rows.{is_below, is_there, number, row_of}
-use Rattle.mum_tree.specs.State.{TreeState}
-use Rattle.mum_tree.proofs.Changed.{number_found}
-use Rattle.mum_tree.proofs.Edits.{may_go, some_row}
-use Rattle.mum_users.specs.declared.user.User.{User}
-use Rattle.mum_users.specs.Edit.{UserEdit, changed_user}
-use Rattle.mum_users.specs.Sessions.{free_slot, next_number, next_slot}
-use Rattle.mum_users.specs.State.{RosterState, has_number, is_in, joining}
-use Rattle.mum_users.specs.Targets.{targeted}
-use Rattle.mum_users.specs.declared.target.Target.{Target}
-use Rattle.mum_users.proofs.Counts.{some_from}
-use Rattle.mum_state.specs.declared.edit.Edit.{Edit}
-use Rattle.mum_state.specs.declared.edit.Edit.TheVariants.{AddAccount, EditChannel, Join, Kick, Leave, MakeChannel, RemoveChannel, SetAcl, SetLimits, SetServer, SetTarget, SetTokens, Text}
-use Rattle.mum_state.specs.Counts.{renews}
-use Rattle.mum_state.specs.Fits.{fits}
-use Rattle.mum_state.specs.Followed.{enters, is_slot_of_maker, may_renew}
-use Rattle.mum_state.specs.Kinds.{sets_tokens_of}
-use Rattle.mum_state.specs.Parts.{SessionEdit, session_edit}
-use Rattle.mum_state.specs.Proper.{IsProper}
-use Rattle.mum_state.specs.Set.{moved_up, set_by}
-use Rattle.mum_state.specs.State.{StateValue}
-use Rattle.mum_state.specs.Suppression.{is_newcomer, is_renewed}
-use Rattle.mum_state.proofs.Closed.{found_passes}
-use Rattle.mum_state.proofs.Fitting.{fit_parts}
-use Rattle.mum_state.proofs.Givens.{none_is}
-use Rattle.mum_state.proofs.Gone.{parent_stays, there_without_subtree}
-use Rattle.mum_state.proofs.Listed.{all_at}
-use Rattle.mum_state.proofs.Members.{AreNumbered, and_false, and_true, any_agree, any_inserted, any_mapped, newcomers, nobody_new, none_passes, or_false}
-use Rattle.mum_state.proofs.OfSession.{IsOfSession, of_session}
+-- For whom an edit starts again what was computed of a session.
+use Rattle.mum_state.proofs.Common.{◌≡◌, ℕ, ◌<◌, ◌≤◌, ◌==◌, ◌&&◌, ◌||◌, not, Bool, true, false, cond, List, length, get_or, map, refl, sym, ap, ap₂, ◌∙◌, arith, Option, Some, None, unwrap_or, All, count_by, filter, list_any, option_map, and_parts, and_right, both_ways, eq-eqb, eqb-true, false≢true, ltb-true, ne_eqb, not-true, or_from, All-filter, list_any_at, none-some, same_Some, AccountId, ChannelId, SessionId, Slot, ChannelInfo, IsProperTree, fault_of_remove, parent_of, is_below, is_there, number, row_of, TreeState, number_found, may_go, some_row, User, UserEdit, changed_user, free_slot, next_number, next_slot, RosterState, has_number, is_in, joining, targeted, Target, some_from, Edit, AddAccount, EditChannel, Join, Kick, Leave, MakeChannel, RemoveChannel, SetAcl, SetLimits, SetServer, SetTarget, SetTokens, Text, renews, fits, enters, is_slot_of_maker, may_renew, sets_tokens_of, SessionEdit, session_edit, IsProper, moved_up, set_by, StateValue, is_newcomer, is_renewed}
+use Rattle.mum_state.proofs.{Closed.found_row_holds, Fitting.fit_parts, Givens.none_is, Gone.parent_stays, Gone.there_without_subtree, Listed.all_at, Members.AreNumbered, Members.and_false, Members.and_true, Members.any_agree, Members.any_inserted, Members.any_mapped, Members.newcomers, Members.nobody_new, Members.none_passes, Members.or_false, OfSession.IsOfSession, OfSession.of_session}
 
 and_swap : (a b : Bool) → (a && b) ≡ (b && a)
 and_swap true true = refl
@@ -154,7 +113,7 @@ renews_user state edit session channel named into proper slot = step (session_ed
 pub there_known : (tree : TreeState) (id : ChannelId) → IsProperTree tree → is_there tree.channels id ≡ true → id.0 ≤ tree.greatest
 there_known tree id proper there =
     let (row, found) = some_row (row_of tree.channels id) there in
-    let known : number row ≤ tree.greatest = found_passes (λ one. number one ≤ tree.greatest) tree.channels id row proper.known found in
+    let known : number row ≤ tree.greatest = found_row_holds (λ one. number one ≤ tree.greatest) tree.channels id row proper.known found in
     let is : number row ≡ id.0 = number_found tree.channels id row found in
     omega arith
 
@@ -239,7 +198,7 @@ renews_removed state id actor proper fit slot =
 
 -- ---- nobody
 
--- rows that stand as they stood
+-- rows that are as they were
 nobody_renewed : (state : StateValue) (edit : Edit) (users : List User) → All (λ user. is_newcomer state.roster.sessions user ≡ false) users → (set_by state edit).roster.sessions ≡ users
     → ((user : User) → sets_tokens_of edit user ≡ false) → (slot : ℕ) → renews state edit slot ≡ false
 nobody_renewed state edit users old set_is no_tokens slot =

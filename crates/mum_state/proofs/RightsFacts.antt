@@ -1,15 +1,5 @@
 -- What a session may do in a channel of a state, worked out on small states.
-use Rattle.std.proofs.Common.{◌≡◌, ℕ, zero, suc, ◌+◌, ◌-◌, List, [], ◌∷◌, ◌++◌, codes, map, Option, Some, None, refl}
-use Rattle.std.specs.Option.{option_map}
-use Rattle.mum_base.specs.declared.perm.TheConstants.Perm.{ALL, ENTER, MAKE_CHANNEL, MOVE, SPEAK, START, TRAVERSE, WHISPER}
-use Rattle.mum_policy.specs.declared.policy.ChannelPolicy.{ChannelPolicy}
-use Rattle.mum_policy.specs.Member.{Actor}
-use Rattle.mum_policy.proofs.Scenes.{afresh, defines, denies, everybody, grants, group, one, plain, the_account, those_in, two}
-use Rattle.mum_tree.specs.Rows.{path, row_of}
-use Rattle.mum_tree.proofs.Scenes.{two_letters}
-use Rattle.mum_users.proofs.Scenes.{account, channel}
-use Rattle.mum_state.specs.declared.edit.Edit.{Edit}
-use Rattle.mum_state.specs.Permissions.{granted_where_there}
+use Rattle.mum_state.proofs.Common.{◌≡◌, ℕ, zero, suc, ◌+◌, ◌-◌, List, [], ◌∷◌, ◌++◌, codes, map, Option, Some, None, refl, option_map, ALL, ENTER, MAKE_CHANNEL, MOVE, SPEAK, START, TRAVERSE, WHISPER, ChannelPolicy, Actor, afresh, defines, denies, everybody, grants, group, one, plain, the_account, those_in, two, path, row_of, two_letters, account, channel, Edit, granted_where_there}
 use Rattle.mum_state.proofs.Scenes.{add_account, enter, join, join_as, make, move, remove, rights_in, set_policy, state}
 
 abbrev ann : List ℕ

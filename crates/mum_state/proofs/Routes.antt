@@ -1,36 +1,6 @@
--- What a route reads stands while the routing count does not rise.
-use Rattle.std.proofs.Common.{◌≡◌, ℕ, ◌≤◌, ◌==◌, ◌&&◌, ◌||◌, not, Bool, true, false, cond, List, [], ◌∷◌, map, length, refl, sym, ap, ap₂, subst, ◌∙◌, arith, ℤ, Option, Some, None}
-use Rattle.std.specs.List.{list_any}
-use Rattle.std.proofs.lemmas.Bool.{and_from, and_left, eq-eqb, false≢true, ne_eqb, true≢false}
-use Rattle.mum_base.specs.declared.number.ChannelId.{ChannelId}
-use Rattle.mum_base.specs.declared.number.SessionId.{SessionId}
-use Rattle.mum_tree.specs.declared.channel.Channel.{Channel}
-use Rattle.mum_tree.specs.declared.channel.Row.{Row}
-use Rattle.mum_tree.specs.Change.{with_given}
-use Rattle.mum_tree.specs.Rows.{is_there, number}
-use Rattle.mum_tree.specs.State.{changed, plain_info}
-use Rattle.mum_users.specs.declared.listening.ListenerPair.{ListenerPair}
-use Rattle.mum_users.specs.declared.user.User.{User}
-use Rattle.mum_users.specs.Edit.{changed_user, staying}
-use Rattle.mum_base.specs.Channels.{is_among}
-use Rattle.mum_users.specs.State.{has_number, is_in, is_of_session}
-use Rattle.mum_state.specs.declared.edit.Edit.{Edit}
-use Rattle.mum_state.specs.declared.edit.Edit.TheVariants.{AddAccount, EditChannel, SetServer, SetUser, Text}
-use Rattle.mum_state.specs.After.{led_to}
-use Rattle.mum_state.specs.Applied.{applied}
-use Rattle.mum_state.specs.Counts.{raised_where}
-use Rattle.mum_state.specs.Emptied.{empties, has_member, is_emptied, without_emptied}
-use Rattle.mum_state.specs.Kinds.{changes_routes, is_empty, sets_policy, sets_tokens_of}
-use Rattle.mum_state.specs.Laws.{RoutesStand}
-use Rattle.mum_state.specs.Parts.{channel_parts, user_parts}
-use Rattle.mum_state.specs.Routed.{route_inputs, without_talk, without_text}
-use Rattle.mum_state.specs.Set.{set_by}
-use Rattle.mum_state.specs.State.{StateValue}
-use Rattle.mum_state.specs.Suppression.{heard_anew, is_set_anew, with_clearing, with_suppression}
-use Rattle.mum_state.proofs.Counting.{counts_never_fall_lem}
-use Rattle.mum_state.proofs.Each.{Each, any_map, each_map, each_self, each_so, filter_stays, map_stays, map_unseen, none_passes, some_found}
-use Rattle.mum_state.proofs.Raised.{not_raised}
-use Rattle.mum_state.proofs.Tidy.{AreTidy, IsTidy, nothing_goes, tidy_by_numbers, tidy_where_proper}
+-- What a route reads stays while the routing count does not rise.
+use Rattle.mum_state.proofs.Common.{◌≡◌, ℕ, ◌≤◌, ◌==◌, ◌&&◌, ◌||◌, not, Bool, true, false, cond, List, [], ◌∷◌, map, length, refl, sym, ap, ap₂, subst, ◌∙◌, arith, ℤ, Option, Some, None, list_any, and_from, and_left, eq-eqb, false≢true, ne_eqb, true≢false, ChannelId, SessionId, Channel, Row, with_given, is_there, number, changed, plain_info, ListenerPair, User, changed_user, staying, is_among, has_number, is_in, is_of_session, Edit, AddAccount, EditChannel, SetServer, SetUser, Text, led_to, applied, raised_where, empties, has_member, is_emptied, without_emptied, changes_routes, is_empty, sets_policy, sets_tokens_of, RoutesStand, channel_parts, user_parts, route_inputs, without_talk, without_text, set_by, StateValue, heard_anew, is_set_anew, with_clearing, with_suppression}
+use Rattle.mum_state.proofs.{Counting.counts_never_fall_lem, Each.Each, Each.any_map, Each.each_map, Each.each_self, Each.each_so, Each.filter_stays, Each.map_stays, Each.map_unseen, Each.none_passes, Each.some_found, Raised.not_raised, Tidy.AreTidy, Tidy.IsTidy, Tidy.nothing_goes, Tidy.tidy_by_numbers, Tidy.tidy_where_proper}
 
 -- ---- an edit by which nobody moves and nothing goes
 
@@ -57,7 +27,7 @@ none_emptied before state members =
     each_row [] = tt
     each_row (row ∷ rows) = (not_emptied row.channel.temporary _ _ (members row.channel.id), each_row rows)
 
--- it is not set anew whether a session may speak
+-- it is not set again whether a session may speak
 abbrev IsLeft : StateValue → Edit → User → Type 0
 IsLeft state edit user = is_set_anew state.roster.sessions edit user ≡ false
 

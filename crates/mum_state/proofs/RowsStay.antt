@@ -1,25 +1,6 @@
 -- What holds of each channel that is there, and of each with a number above those given before, holds after edits.
-use Rattle.std.proofs.Common.{◌≡◌, ℕ, ◌<◌, ◌≤◌, ◌==◌, not, Bool, true, false, cond, List, [], ◌∷◌, ◌++◌, refl, sym, subst, arith, Some, None, nat_lt, IsTrue}
-use Rattle.std.proofs.lemmas.Bool.{and_parts, ltb-true}
-use Rattle.mum_base.specs.declared.number.ChannelId.{ChannelId}
-use Rattle.mum_tree.specs.declared.channel.Channel.{Channel}
-use Rattle.mum_tree.specs.declared.channel.Row.{Row}
-use Rattle.mum_tree.specs.Change.{with_given}
-use Rattle.mum_tree.specs.Places.{least_place}
-use Rattle.mum_tree.specs.Rows.{is_below, number}
-use Rattle.mum_tree.specs.State.{TreeState, changed, new_row}
-use Rattle.mum_state.specs.declared.edit.Edit.{Edit}
-use Rattle.mum_state.specs.declared.edit.Edit.TheVariants.{EditChannel, MakeChannel, RemoveChannel}
-use Rattle.mum_state.specs.After.{all_fit, led_to}
-use Rattle.mum_state.specs.Applied.{applied}
-use Rattle.mum_state.specs.Fits.{fits, gives_right_numbers}
-use Rattle.mum_state.specs.Parts.{channel_parts}
-use Rattle.mum_state.specs.Set.{set_by}
-use Rattle.mum_state.specs.State.{StateValue}
-use Rattle.mum_state.specs.Suppression.{with_suppression}
-use Rattle.mum_state.proofs.Each.{Each, each_append, each_filter, each_map}
-use Rattle.mum_state.proofs.Heard.{clearing_tree}
-use Rattle.mum_state.proofs.Numbers.{greatest_rises, numbers_of_fitting}
+use Rattle.mum_state.proofs.Common.{◌≡◌, ℕ, ◌<◌, ◌≤◌, ◌==◌, not, Bool, true, false, cond, List, [], ◌∷◌, ◌++◌, refl, sym, subst, arith, Some, None, nat_lt, IsTrue, and_parts, ltb-true, ChannelId, Channel, Row, with_given, least_place, is_below, number, TreeState, changed, new_row, Edit, EditChannel, MakeChannel, RemoveChannel, all_fit, led_to, applied, fits, gives_right_numbers, channel_parts, set_by, StateValue, with_suppression}
+use Rattle.mum_state.proofs.{Each.Each, Each.each_append, Each.each_filter, Each.each_map, Heard.clearing_tree, Numbers.greatest_rises, Numbers.numbers_of_fitting}
 
 -- what is said of a row holds whatever else changes of its channel than the number
 abbrev pub IsOfRows : (Row → Type 0) → Type 0

@@ -1,29 +1,6 @@
 -- Small states of which worked facts speak, made edit by edit from the empty one. Sessions, channels and slots are numbers.
-use Rattle.std.proofs.Common.{ℕ, Bool, true, false, List, [], ◌∷◌, map, replicate, take, Option, None}
-use Rattle.std.specs.List.{filter}
-use Rattle.std.specs.Option.{option_map}
-use Rattle.mum_policy.specs.declared.policy.ChannelPolicy.{ChannelPolicy}
-use Rattle.mum_policy.specs.Member.{definition, definitions_from, has_token, is_in, is_listed, meets, member, members}
-use Rattle.mum_policy.specs.Name.{asked_by, is_built_in_without_members, meaning, understood_after}
-use Rattle.mum_policy.specs.Subtree.{is_below, offset_of, span_of}
-use Rattle.mum_policy.specs.Walk.{after_channel, after_entries, after_match, along, is_root, matches, perm}
-use Rattle.mum_tree.specs.declared.channel.Channel.{Channel}
-use Rattle.mum_tree.specs.Change.{Change}
-use Rattle.mum_tree.specs.Places.{first_place}
-use Rattle.mum_tree.specs.Rows.{row_of, upward}
-use Rattle.mum_tree.specs.State.{plain_info}
-use Rattle.mum_tree.proofs.Scenes.{to_links, to_parent}
-use Rattle.mum_users.specs.declared.target.TargetItem.{TargetItem}
-use Rattle.mum_users.specs.declared.user.User.{User}
-use Rattle.mum_users.specs.Edit.{UserEdit}
-use Rattle.mum_users.specs.Listeners.{pairs_of}
-use Rattle.mum_users.specs.Sessions.{session_of}
-use Rattle.mum_users.proofs.Scenes.{account, channel, session, slot, target, to_channel, to_listen, unchanged}
-use Rattle.mum_state.specs.declared.edit.Edit.{Edit}
-use Rattle.mum_state.specs.declared.edit.Edit.TheVariants.{AddAccount, EditChannel, Join, Kick, Leave, MakeChannel, RemoveChannel, SetAcl, SetLimits, SetTarget, SetTokens, SetUser}
-use Rattle.mum_state.specs.After.{after}
-use Rattle.mum_state.specs.Permissions.{perm_of}
-use Rattle.mum_state.specs.State.{StateValue, policy_of}
+use Rattle.mum_state.proofs.Common.{ℕ, Bool, true, false, List, [], ◌∷◌, map, replicate, take, Option, None, filter, option_map, ChannelPolicy, definition, definitions_from, has_token, is_listed, meets, member, members, asked_by, is_built_in_without_members, meaning, understood_after, offset_of, span_of, after_channel, after_entries, after_match, along, is_root, matches, perm, Channel, Change, first_place, row_of, upward, plain_info, to_links, to_parent, TargetItem, User, UserEdit, pairs_of, session_of, account, channel, session, slot, target, to_channel, to_listen, unchanged, Edit, AddAccount, EditChannel, Join, Kick, Leave, MakeChannel, RemoveChannel, SetAcl, SetLimits, SetTarget, SetTokens, SetUser, after, perm_of, StateValue, policy_of}
+use Rattle.mum_policy.specs.{Member.is_in, Subtree.is_below}
 
 -- the state to which edits lead from the empty one; this opens all that it computes with
 unfoldable pub state : List Edit → StateValue

@@ -1,27 +1,6 @@
 -- While a session is there it keeps its slot, and a channel keeps its place.
-use Rattle.std.proofs.Common.{◌≡◌, ℕ, ◌<◌, ◌≤◌, ◌==◌, true, List, [], ◌∷◌, sym, ap, ◌∙◌, arith, Some, IsTrue, inl, inr}
-use Rattle.std.specs.List.{count_by}
-use Rattle.std.proofs.lemmas.Bool.{cases_lt, eq-eqb, eqb-true}
-use Rattle.std.proofs.lemmas.Option.{same_Some}
-use Rattle.mum_base.specs.declared.number.ChannelId.{ChannelId}
-use Rattle.mum_base.specs.declared.number.SessionId.{SessionId}
-use Rattle.mum_base.specs.declared.number.Slot.{Slot}
-use Rattle.mum_tree.specs.declared.channel.Row.{Row}
-use Rattle.mum_tree.specs.Rows.{number, row_of}
-use Rattle.mum_tree.proofs.Find.{row_of_at}
-use Rattle.mum_users.specs.declared.user.User.{User}
-use Rattle.mum_users.specs.Sessions.{session_of}
-use Rattle.mum_users.specs.State.{has_number}
-use Rattle.mum_state.specs.declared.edit.Edit.{Edit}
-use Rattle.mum_state.specs.After.{all_fit, led_to}
-use Rattle.mum_state.specs.Applied.{applied}
-use Rattle.mum_state.specs.Laws.{HasPlace, IsInSlot, SeatsStand}
-use Rattle.mum_state.specs.Proper.{IsProper}
-use Rattle.mum_state.specs.State.{StateValue}
-use Rattle.mum_state.proofs.Descent.{Descends, applied_descends, set_descends}
-use Rattle.mum_state.proofs.Each.{Each, each_find, each_from_all, each_so, found_counts, only_found, shown}
-use Rattle.mum_state.proofs.Numbers.{last_rises}
-use Rattle.mum_state.proofs.RowsStay.{IsOfRows, rows_stay}
+use Rattle.mum_state.proofs.Common.{◌≡◌, ℕ, ◌<◌, ◌≤◌, ◌==◌, true, List, [], ◌∷◌, sym, ap, ◌∙◌, arith, Some, IsTrue, inl, inr, count_by, cases_lt, eq-eqb, eqb-true, same_Some, ChannelId, SessionId, Slot, Row, number, row_of, row_of_at, User, session_of, has_number, Edit, all_fit, led_to, applied, HasPlace, IsInSlot, SeatsStand, IsProper, StateValue}
+use Rattle.mum_state.proofs.{Descent.Descends, Descent.applied_descends, Descent.set_descends, Each.Each, Each.each_find, Each.each_from_all, Each.each_so, Each.found_counts, Each.only_found, Each.shown, Numbers.last_rises, RowsStay.IsOfRows, RowsStay.rows_stay}
 
 -- ---- sessions
 

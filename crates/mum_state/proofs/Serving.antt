@@ -1,8 +1,5 @@
 -- Other settings of the server.
-use Rattle.std.proofs.Common.{◌≡◌, ◌↔◌, true}
-use Rattle.mum_state.specs.declared.server.Server.{Server}
-use Rattle.mum_state.specs.Proper.{IsProper, is_text}
-use Rattle.mum_state.specs.State.{StateValue}
+use Rattle.mum_state.proofs.Common.{◌≡◌, ◌↔◌, true, Server, IsProper, is_text, StateValue}
 
 -- its welcome is a text exactly where the state stays proper with it
 pub servers_both_ways : (state : StateValue) (server : Server) → IsProper state → (is_text server.welcome ≡ true) ↔ IsProper (record state { server = server })

@@ -1,36 +1,6 @@
--- Who is heard anew is suppressed exactly where it may not speak in the state after the edit.
-use Rattle.std.proofs.Common.{◌≡◌, ℕ, ◌==◌, ◌||◌, not, Bool, true, false, cond, List, [], ◌∷◌, map, reverse, refl, sym, ap, subst, ◌∙◌, Some}
-use Rattle.std.specs.List.{filter, find}
-use Rattle.std.specs.Option.{option_map}
-use Rattle.std.proofs.lemmas.Bool.{and_parts, both_ways, eqb-true}
-use Rattle.mum_base.specs.declared.number.ChannelId.{ChannelId}
-use Rattle.mum_base.specs.declared.perm.TheConstants.Perm.{SPEAK}
-use Rattle.mum_policy.specs.Walk.{holds, perm}
-use Rattle.mum_tree.specs.declared.channel.Row.{Row}
-use Rattle.mum_tree.specs.Proper.{IsProper as IsProperTree}
-use Rattle.mum_tree.specs.Rows.{is_there, path}
-use Rattle.mum_tree.specs.State.{without_rows}
-use Rattle.mum_tree.proofs.Upward.{path_leads}
-use Rattle.mum_users.specs.declared.user.User.{User}
-use Rattle.mum_users.specs.State.{has_number}
-use Rattle.mum_state.specs.declared.edit.Edit.{Edit}
-use Rattle.mum_state.specs.declared.edit.Edit.TheVariants.{SetTokens}
-use Rattle.mum_state.specs.Applied.{applied}
-use Rattle.mum_state.specs.Emptied.{without_emptied}
-use Rattle.mum_state.specs.Kinds.{sets_policy, sets_tokens_of}
-use Rattle.mum_state.specs.Laws.{SuppressedWhereSilent}
-use Rattle.mum_state.specs.Permissions.{actor_from, actor_at, may_speak}
-use Rattle.mum_state.specs.Proper.{IsProper}
-use Rattle.mum_state.specs.Set.{set_by, with_tree}
-use Rattle.mum_state.specs.State.{PolicyRow, StateValue, policy_of}
-use Rattle.mum_state.specs.Suppression.{is_cleared, is_newcomer, is_set_anew}
-use Rattle.mum_state.proofs.Alike.{Agrees, perm_by_path}
-use Rattle.mum_state.proofs.Closed.{AreClosed, closed_proper, inside_kept, is_kept, kept_closed, rows_not_left, up_of}
-use Rattle.mum_state.proofs.Each.{Each, each_find, each_from_all, each_map, each_passes, each_so}
-use Rattle.mum_state.proofs.Gone.{rows_of, there_of}
-use Rattle.mum_state.proofs.Keeping.{fit_proper}
-use Rattle.mum_state.proofs.Ways.{each_of_mapped}
-use Rattle.mum_state.proofs.Suppressed.{heard, heard_after, heard_proper, silent_after, silent_anew, silent_cleared, with_heard}
+-- Who is heard again is suppressed exactly where it may not speak in the state after the edit.
+use Rattle.mum_state.proofs.Common.{◌≡◌, ℕ, ◌==◌, ◌||◌, not, Bool, true, false, cond, List, [], ◌∷◌, map, reverse, refl, sym, ap, subst, ◌∙◌, Some, filter, find, option_map, and_parts, both_ways, eqb-true, ChannelId, SPEAK, holds, perm, Row, IsProperTree, is_there, path, without_rows, path_leads, User, has_number, Edit, SetTokens, applied, without_emptied, sets_policy, sets_tokens_of, SuppressedWhereSilent, actor_from, actor_at, may_speak, IsProper, set_by, with_tree, PolicyRow, StateValue, policy_of, is_cleared, is_newcomer, is_set_anew}
+use Rattle.mum_state.proofs.{Alike.Agrees, Alike.perm_by_path, Closed.AreClosed, Closed.closed_proper, Closed.inside_kept, Closed.is_kept, Closed.kept_closed, Closed.rows_not_left, Closed.up_of, Each.Each, Each.each_find, Each.each_from_all, Each.each_map, Each.each_passes, Each.each_so, Gone.rows_of, Gone.there_of, Keeping.fit_proper, Ways.each_of_mapped, Suppressed.heard, Suppressed.heard_after, Suppressed.heard_proper, Suppressed.silent_after, Suppressed.silent_anew, Suppressed.silent_cleared, Suppressed.with_heard}
 
 -- ---- channels that go change nothing for who stays
 
@@ -85,7 +55,7 @@ emptied_speaks before state user proper there =
     ap (λ (rows : List Row). may_speak (with_tree state (without_rows state.tree rows)) user) (rows_not_left was now state.tree.channels proper.tree.rise)
     ∙ left_speaks state (is_kept was now state.tree.channels) user proper (kept_closed was now state.tree proper.tree) there
 
--- ---- who is heard anew
+-- ---- who is heard again
 
 not_cleared : (edit : Edit) (user : User) → is_cleared edit user ≡ false → silent_cleared edit user ≡ user.suppress
 not_cleared edit user none = ap (λ (b : Bool). cond b false user.suppress) none
@@ -101,7 +71,7 @@ tokens_heard edit silent user = refl
 anew_heard : (before : List User) (edit : Edit) (silent : User → Bool) (user : User) → is_set_anew before edit (heard silent user) ≡ is_set_anew before edit user
 anew_heard before edit silent user = ap (λ (b : Bool). (is_newcomer before user || b) || sets_policy edit) (tokens_heard edit silent user)
 
--- by what it may do in this state, if it is heard anew
+-- by what it may do in this state, if it is heard again
 abbrev IsHeardIn : StateValue → Edit → StateValue → User → Type 0
 IsHeardIn before edit state user =
     is_set_anew before.roster.sessions edit user ≡ true → is_cleared edit user ≡ false → user.suppress ≡ not (may_speak state user)

@@ -1,30 +1,6 @@
 -- Sessions that are alike may do the same; and marks of sessions by their slots.
-use Rattle.std.proofs.Common.{◌≡◌, ℕ, zero, suc, ◌+◌, ◌<◌, ◌≤◌, ◌==◌, ◌&&◌, ◌||◌, not, Bool, true, false, cond, List, [], ◌∷◌, length, get_or, take, refl, sym, ap, ◌∙◌, arith, Option, Some, None, is_none}
-use Rattle.std.specs.List.{list_all, list_any, position}
-use Rattle.std.proofs.lemmas.Bool.{and_parts, eq-eqb, eqb-true, ne_eqb}
-use Rattle.std.proofs.lemmas.List.{take_all}
-use Rattle.mum_base.specs.declared.number.AccountId.{AccountId}
-use Rattle.mum_base.specs.declared.number.ChannelId.{ChannelId}
-use Rattle.mum_base.specs.declared.number.TheConstants.{SLOTS}
-use Rattle.mum_base.specs.declared.perm.TheConstants.Perm.{SPEAK}
-use Rattle.mum_policy.specs.Walk.{holds}
-use Rattle.mum_tree.specs.Rows.{is_there, path}
-use Rattle.mum_users.specs.declared.placing.Placement.{Placement}
-use Rattle.mum_users.specs.declared.user.User.{User}
-use Rattle.mum_users.specs.Placed.{with_placement, with_placements}
-use Rattle.mum_users.specs.Proper.{SlotsRise}
-use Rattle.mum_users.proofs.Places.{find-found, present_from}
-use Rattle.mum_state.specs.declared.renewed.Renewed.{Renewed}
-use Rattle.mum_state.specs.Channels.{ChannelsState, channels_of, granted_in, speaks_where_in}
-use Rattle.mum_state.specs.Permissions.{may_speak}
-use Rattle.mum_state.specs.Renewed.{heard_again}
-use Rattle.mum_state.specs.Speakers.{are_alike, is_heard, is_plain, is_speaker}
-use Rattle.mum_state.specs.State.{StateValue}
-use Rattle.mum_state.specs.Suppression.{heard_anew}
-use Rattle.mum_state.proofs.Each.{found_passes}
-use Rattle.mum_state.proofs.Givens.{none_is}
-use Rattle.mum_state.proofs.Listed.{all_at}
-use Rattle.mum_state.proofs.Members.{map_agree, or_false}
+use Rattle.mum_state.proofs.Common.{◌≡◌, ℕ, zero, suc, ◌+◌, ◌<◌, ◌≤◌, ◌==◌, ◌&&◌, ◌||◌, not, Bool, true, false, cond, List, [], ◌∷◌, length, get_or, take, refl, sym, ap, ◌∙◌, arith, Option, Some, None, is_none, list_all, list_any, position, and_parts, eq-eqb, eqb-true, ne_eqb, take_all, AccountId, ChannelId, SLOTS, SPEAK, holds, is_there, path, Placement, User, with_placement, with_placements, SlotsRise, find-found, present_from, Renewed, ChannelsState, channels_of, granted_in, speaks_where_in, may_speak, heard_again, are_alike, is_heard, is_plain, is_speaker, StateValue, heard_anew}
+use Rattle.mum_state.proofs.{Each.found_passes, Givens.none_is, Listed.all_at, Members.map_agree, Members.or_false}
 
 -- ---- sessions that are alike
 
@@ -106,7 +82,7 @@ speaks_alike renewed all channels users marks place first user d rise so_far fou
 
 -- ---- all that are heard
 
--- where each session is told to sit, by these marks
+-- where these marks place each session
 abbrev pub marked_seat : Renewed → Bool → List Bool → User → Placement
 marked_seat renewed all marks user = record {
   channel = user.channel;

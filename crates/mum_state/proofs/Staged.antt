@@ -1,40 +1,6 @@
 -- What each stage of an edit needs of the state before it.
-use Rattle.std.proofs.Common.{◌≡◌, ℕ, ◌+◌, ◌≤◌, ◌^◌, ◌==◌, ◌&&◌, ◌||◌, Bool, true, false, cond, List, [], ◌∷◌, length, refl, sym, ap, subst, ◌∙◌, arith, Option, Some, None, Result, Ok, Err, IfSome, IsTrue, OnErr, OnOk, if◌then◌else◌}
-use Rattle.std.specs.List.{All, list_all, list_any}
-use Rattle.std.specs.Option.{option_map_or}
-use Rattle.std.proofs.lemmas.Bool.{and_from, and_parts}
-use Rattle.mum_base.specs.declared.number.ChannelId.{ChannelId}
-use Rattle.mum_base.specs.declared.number.SessionId.{SessionId}
-use Rattle.mum_tree.specs.Refusals.{fault_of_remove}
-use Rattle.mum_tree.specs.Rows.{is_there}
-use Rattle.mum_tree.specs.State.{TreeState}
-use Rattle.mum_users.specs.declared.user.User.{User}
-use Rattle.mum_base.specs.declared.number.TheConstants.{SLOTS}
-use Rattle.mum_users.specs.Edit.{changed_user}
-use Rattle.mum_users.specs.Proper.{IsProper as IsProperRoster}
-use Rattle.mum_users.specs.State.{has_number}
-use Rattle.mum_state.specs.declared.edit.Edit.{Edit}
-use Rattle.mum_state.specs.declared.renewed.Renewed.{Renewed}
-use Rattle.mum_state.specs.Applied.{applied}
-use Rattle.mum_state.specs.Counts.{renews}
-use Rattle.mum_state.specs.Emptied.{has_member}
-use Rattle.mum_state.specs.Kinds.{sets_policy}
-use Rattle.mum_state.specs.Fits.{fits}
-use Rattle.mum_state.specs.Followed.{cleared_session, counted, is_left_empty, left_by, with_left_closed}
-use Rattle.mum_state.specs.Named.{named_account, named_channels, named_sessions}
-use Rattle.mum_state.specs.Parts.{SessionEdit, session_edit}
-use Rattle.mum_state.specs.Proper.{IsProper}
-use Rattle.mum_state.specs.Renewed.{heard_again, is_renewed_slot}
-use Rattle.mum_state.specs.Set.{set_by}
-use Rattle.mum_state.specs.State.{Counts, StateValue, has_account}
-use Rattle.mum_state.specs.Suppression.{heard_anew, with_clearing}
-use Rattle.mum_state.proofs.Applying.{applied_is, counts_set}
-use Rattle.mum_state.proofs.Clearing.{by_clearing}
-use Rattle.mum_state.proofs.Fitting.{fit_parts}
-use Rattle.mum_state.proofs.Keeping.{fit_proper}
-use Rattle.mum_state.proofs.Leftover.{left_alone, left_may_go}
-use Rattle.mum_state.proofs.Listed.{any_map}
-use Rattle.mum_state.proofs.OfSession.{IsOfSession, of_session}
+use Rattle.mum_state.proofs.Common.{◌≡◌, ℕ, ◌+◌, ◌≤◌, ◌^◌, ◌==◌, ◌&&◌, ◌||◌, Bool, true, false, cond, List, [], ◌∷◌, length, refl, sym, ap, subst, ◌∙◌, arith, Option, Some, None, Result, Ok, Err, IfSome, IsTrue, OnErr, OnOk, if◌then◌else◌, All, list_all, list_any, option_map_or, and_from, and_parts, ChannelId, SessionId, fault_of_remove, is_there, TreeState, User, SLOTS, changed_user, IsProperRoster, has_number, Edit, Renewed, applied, renews, has_member, sets_policy, fits, cleared_session, counted, is_left_empty, left_by, with_left_closed, named_account, named_channels, named_sessions, SessionEdit, session_edit, IsProper, heard_again, is_renewed_slot, set_by, Counts, StateValue, has_account, heard_anew, with_clearing}
+use Rattle.mum_state.proofs.{Applying.applied_is, Applying.counts_set, Clearing.by_clearing, Fitting.fit_parts, Keeping.fit_proper, Leftover.left_alone, Leftover.left_may_go, Listed.any_stays, OfSession.IsOfSession, OfSession.of_session}
 
 -- the sessions that a fitting edit names are here
 pub sessions_named : (state : StateValue) (edit : Edit) → fits state edit ≡ true → list_all (λ session. list_any (has_number session) state.roster.sessions) (named_sessions edit) ≡ true
@@ -46,7 +12,7 @@ sessions_named state edit fit =
 first_of : {X : Type 0} (p : X → Bool) (x : X) (xs : List X) → list_all p (x ∷ xs) ≡ true → p x ≡ true
 first_of p x xs all = (and_parts (p x) (list_all p xs) all).0
 
--- who is heard anew is in a channel that is there
+-- who is heard again is in a channel that is there
 pub hear_ready : (state : StateValue) (edit : Edit) → IsProper state → fits state edit ≡ true → IsTrue (list_all (λ user. is_there (set_by state edit).tree.channels user.channel) (set_by state edit).roster.sessions)
 hear_ready state edit proper fit = (fit_proper state edit proper fit).0.inside
 
@@ -67,10 +33,10 @@ clear_ready state edit renewed all fit = step (session_edit edit) refl
         first_of (λ one. list_any (has_number one) state.roster.sessions) user.session (user.actor ∷ [])
         (subst (λ (sessions : List SessionId). list_all (λ session. list_any (has_number session) state.roster.sessions) sessions ≡ true) are.names (sessions_named state edit fit)) in
         and_from (list_any (has_number user.session) (heard_again renewed all (set_by state edit)).roster.sessions) true
-        (any_map (has_number user.session) (λ one. cond (is_renewed_slot renewed one.slot.0 || all) (heard_anew (set_by state edit) one) one)
+        (any_stays (has_number user.session) (λ one. cond (is_renewed_slot renewed one.slot.0 || all) (heard_anew (set_by state edit) one) one)
         (λ one. either_session (heard_anew (set_by state edit)) one user.session (is_renewed_slot renewed one.slot.0 || all) (λ other. refl)) (set_by state edit).roster.sessions
         ∙ ap (λ (after : StateValue). list_any (has_number user.session) after.roster.sessions) are.sets
-        ∙ any_map (has_number user.session) (λ one. cond (has_number user.session one) (changed_user user.change one) one)
+        ∙ any_stays (has_number user.session) (λ one. cond (has_number user.session one) (changed_user user.change one) one)
         (λ one. either_session (changed_user user.change) one user.session (has_number user.session one) (λ other. refl)) state.roster.sessions
         ∙ here) refl
     cleared user is false = refl

@@ -1,19 +1,5 @@
 -- What each edit sets, what it leaves as it was, and what it counts, worked out on small states.
-use Rattle.std.proofs.Common.{◌≡◌, ℕ, true, false, List, [], ◌∷◌, ◌++◌, codes, map, replicate, Option, Some, None, refl}
-use Rattle.std.specs.Option.{option_map}
-use Rattle.mum_base.specs.declared.perm.TheConstants.Perm.{MOVE, SPEAK, ENTER}
-use Rattle.mum_policy.proofs.Scenes.{denies, everybody, grants, one, plain}
-use Rattle.mum_tree.proofs.Scenes.{to_links, to_name, to_parent, unchanged as same_channel}
-use Rattle.mum_tree.specs.State.{root_alone}
-use Rattle.mum_users.specs.declared.flags.FlagChange.{FlagChange}
-use Rattle.mum_users.specs.Targets.{target_of}
-use Rattle.mum_users.proofs.Scenes.{account, channel, item_channel, item_sessions, row, same_flags, session, target, to_listen, unchanged}
-use Rattle.mum_users.specs.Edit.{UserEdit}
-use Rattle.mum_users.specs.State.{empty_roster}
-use Rattle.mum_state.specs.declared.account.Account.{Account}
-use Rattle.mum_state.specs.declared.edit.Edit.{Edit}
-use Rattle.mum_state.specs.declared.edit.Edit.TheVariants.{SetServer, Text}
-use Rattle.mum_state.specs.State.{StateValue, account_named, empty_state, no_counts}
+use Rattle.mum_state.proofs.Common.{◌≡◌, ℕ, true, false, List, [], ◌∷◌, ◌++◌, codes, map, replicate, Option, Some, None, refl, option_map, MOVE, SPEAK, ENTER, denies, everybody, grants, one, plain, to_links, to_name, to_parent, same_channel, root_alone, FlagChange, target_of, account, channel, item_channel, item_sessions, row, same_flags, session, target, to_listen, unchanged, UserEdit, empty_roster, Account, Edit, SetServer, Text, StateValue, account_named, empty_state, no_counts}
 use Rattle.mum_state.proofs.Scenes.{add_account, channels_in, counts_in, digest, edit, edit_by, enter, join, join_as, kick, leave, link, listen, listened_in, make, make_by, make_temporary, move, places_in, policy_in, remove, row_in, sessions_in, set_limits, set_policy, set_policy_by, set_target, set_tokens, set_user, set_user_by, slots_in, state, suppressed_in}
 
 abbrev ann : List ℕ

@@ -1,27 +1,12 @@
--- Suppression, set anew or cleared, changes whether sessions may speak, and nothing else.
-use Rattle.std.proofs.Common.{◌≡◌, ◌&&◌, not, Bool, true, false, cond, List, [], ◌∷◌, map, refl, ap, ◌∙◌, Option, Some, None, if◌then◌else◌}
-use Rattle.std.specs.Option.{option_map_or}
-use Rattle.mum_base.specs.declared.number.ChannelId.{ChannelId}
-use Rattle.mum_base.specs.declared.number.SessionId.{SessionId}
-use Rattle.mum_tree.specs.Rows.{is_there}
-use Rattle.mum_users.specs.declared.user.User.{User}
-use Rattle.mum_users.specs.Sessions.{suppressed}
-use Rattle.mum_users.specs.State.{has_number, is_in}
-use Rattle.mum_users.proofs.Rosters.{IsProper-mapped}
-use Rattle.mum_state.specs.declared.edit.Edit.{Edit}
-use Rattle.mum_state.specs.Emptied.{has_member}
-use Rattle.mum_state.specs.Parts.{SessionEdit, session_edit}
-use Rattle.mum_state.specs.Permissions.{may_speak}
-use Rattle.mum_state.specs.Proper.{IsProper, is_sound_user}
-use Rattle.mum_state.specs.State.{StateValue}
-use Rattle.mum_state.specs.Suppression.{cleared_by, heard_anew, is_cleared, is_set_anew, with_clearing, with_suppression}
-use Rattle.mum_state.proofs.Listed.{all_map, any_map, map_same, map_twice}
+-- Suppression, set again or cleared, changes whether sessions may speak, and nothing else.
+use Rattle.mum_state.proofs.Common.{◌≡◌, ◌&&◌, not, Bool, true, false, cond, List, [], ◌∷◌, map, refl, ap, ◌∙◌, Option, Some, None, if◌then◌else◌, option_map_or, ChannelId, SessionId, is_there, User, suppressed, has_number, is_in, IsProper-mapped, Edit, has_member, SessionEdit, session_edit, may_speak, IsProper, is_sound_user, StateValue, cleared_by, heard_anew, is_cleared, is_set_anew, with_clearing, with_suppression}
+use Rattle.mum_state.proofs.Listed.{all_map, any_stays, map_same, map_twice}
 
 -- a session that may speak or not
 abbrev pub heard : (User → Bool) → User → User
 heard silent user = record user { suppress = silent user }
 
--- the sessions may speak or not, as told
+-- the sessions may speak or not, as given
 abbrev pub with_heard : (User → Bool) → StateValue → StateValue
 with_heard silent state = record state { roster = record state.roster { sessions = map (heard silent) state.roster.sessions } }
 
@@ -29,7 +14,7 @@ heard_either : (is silent : Bool) (user : User) → cond is (record user { suppr
 heard_either true silent user = refl
 heard_either false silent user = refl
 
--- who may not speak once suppression is set anew
+-- who may not speak once suppression is set again
 abbrev pub silent_anew : StateValue → Edit → StateValue → User → Bool
 silent_anew before edit state user = cond (is_set_anew before.roster.sessions edit user) (not (may_speak state user)) user.suppress
 
@@ -102,4 +87,4 @@ heard_proper silent state proper = record {
 
 -- the same channels have members
 pub heard_members : (silent : User → Bool) (users : List User) (channel : ChannelId) → has_member (map (heard silent) users) channel ≡ has_member users channel
-heard_members silent users channel = any_map (is_in channel) (heard silent) (λ user. refl) users
+heard_members silent users channel = any_stays (is_in channel) (heard silent) (λ user. refl) users

@@ -1,23 +1,5 @@
 -- An edit can be counted exactly where the counts after it are as they may be.
-use Rattle.std.proofs.Common.{◌≡◌, ℕ, suc, ◌+◌, ◌<◌, ◌≤◌, ◌==◌, ◌&&◌, ◌||◌, not, Bool, true, false, ltb, List, [], ◌∷◌, length, get_or, refl, sym, ap, subst, ◌∙◌, arith, if◌then◌else◌, None}
-use Rattle.std.specs.List.{All, list_any}
-use Rattle.std.proofs.lemmas.Bool.{and_from, and_parts, eq-eqb, false≢true, lt-ltb, ltb-true}
-use Rattle.std.proofs.lemmas.List.Elements.{All-cons, All-head, All-nil, All-tail}
-use Rattle.std.proofs.lemmas.List.Folds.{list_any_at, list_any_none}
-use Rattle.mum_tree.specs.declared.channel.Row.{Row}
-use Rattle.mum_users.specs.declared.user.User.{User}
-use Rattle.mum_users.specs.State.{has_number, is_in}
-use Rattle.mum_state.specs.declared.count.TheConstants.{EDIT_LIMIT}
-use Rattle.mum_state.specs.declared.edit.Edit.{Edit}
-use Rattle.mum_state.specs.declared.edit.Edit.TheVariants.{AddAccount, EditChannel, MakeChannel, SetAcl, SetLimits, SetServer, SetTokens, Text}
-use Rattle.mum_state.specs.Counts.{counts_after, raised_slots, raised_where, renews}
-use Rattle.mum_state.specs.Emptied.{empties, has_member, is_emptied}
-use Rattle.mum_state.specs.Fits.{has_room_for, is_countable}
-use Rattle.mum_state.specs.Kinds.{changes_paths, changes_routes, is_of_configuration, sets_tokens_of}
-use Rattle.mum_state.specs.Proper.{AreCounts, IsNear}
-use Rattle.mum_state.specs.Set.{set_by}
-use Rattle.mum_state.specs.State.{Counts, StateValue}
-use Rattle.mum_state.specs.Suppression.{is_newcomer, is_renewed}
+use Rattle.mum_state.proofs.Common.{◌≡◌, ℕ, suc, ◌+◌, ◌<◌, ◌≤◌, ◌==◌, ◌&&◌, ◌||◌, not, Bool, true, false, ltb, List, [], ◌∷◌, length, get_or, refl, sym, ap, subst, ◌∙◌, arith, if◌then◌else◌, None, All, list_any, and_from, and_parts, eq-eqb, false≢true, lt-ltb, ltb-true, All-cons, All-head, All-nil, All-tail, list_any_at, list_any_none, Row, User, has_number, is_in, EDIT_LIMIT, Edit, AddAccount, EditChannel, MakeChannel, SetAcl, SetLimits, SetServer, SetTokens, Text, counts_after, raised_slots, raised_where, renews, empties, has_member, is_emptied, has_room_for, is_countable, changes_paths, changes_routes, is_of_configuration, sets_tokens_of, AreCounts, IsNear, set_by, Counts, StateValue, is_newcomer, is_renewed}
 
 -- ---- numbers
 

@@ -1,18 +1,6 @@
 -- What belongs to channels belongs to channels that are there, so nothing goes where none is emptied.
-use Rattle.std.proofs.Common.{◌≡◌, ◌&&◌, not, Bool, true, false, List, map, ap, ◌∙◌}
-use Rattle.std.specs.List.{filter}
-use Rattle.std.proofs.lemmas.Bool.{and_from}
-use Rattle.mum_base.specs.declared.number.ChannelId.{ChannelId}
-use Rattle.mum_tree.specs.declared.channel.Row.{Row}
-use Rattle.mum_tree.specs.Rows.{is_there}
-use Rattle.mum_tree.specs.State.{Pair, without_rows}
-use Rattle.mum_users.specs.declared.listening.ListenerPair.{ListenerPair}
-use Rattle.mum_state.specs.Emptied.{empties, without_emptied}
-use Rattle.mum_state.specs.Proper.{IsProper}
-use Rattle.mum_state.specs.Set.{with_tree}
-use Rattle.mum_state.specs.State.{PolicyRow, StateValue}
-use Rattle.mum_state.proofs.Each.{Each, each_from_all, each_passes, each_so, filter_stays}
-use Rattle.mum_state.proofs.Ways.{edge, governed_where_proper, rows_kept, starts_edge, there_by_edge}
+use Rattle.mum_state.proofs.Common.{◌≡◌, ◌&&◌, not, Bool, true, false, List, map, ap, ◌∙◌, filter, and_from, ChannelId, Row, is_there, Pair, without_rows, ListenerPair, empties, without_emptied, IsProper, with_tree, PolicyRow, StateValue}
+use Rattle.mum_state.proofs.{Each.Each, Each.each_from_all, Each.each_passes, Each.each_so, Each.filter_stays, Ways.edge, Ways.governed_where_proper, Ways.rows_kept, Ways.starts_edge, Ways.there_by_edge}
 
 -- the links, the policies and the listeners are of channels that are there
 pub record AreTidy (rows : List Row) (links : List Pair) (policies : List PolicyRow) (listeners : List ListenerPair) : Type 0 where

@@ -1,28 +1,7 @@
 -- Paths and policies stay where no channel is made, moved or removed and no policy set.
-use Rattle.std.proofs.Common.{◌≡◌, ℕ, zero, suc, ◌==◌, ◌&&◌, not, Bool, true, false, cond, List, [], ◌∷◌, map, reverse, refl, sym, ap, subst, ◌∙◌, Option, Some, None, if◌then◌else◌}
-use Rattle.std.specs.List.{filter, find, list_any}
-use Rattle.std.specs.Option.{option_map, option_map_or}
-use Rattle.std.proofs.lemmas.Bool.{eq-eqb, not_from_false, true≢false}
-use Rattle.std.proofs.lemmas.Option.{none-some, same_Some}
-use Rattle.mum_base.specs.declared.number.ChannelId.{ChannelId}
-use Rattle.mum_tree.specs.declared.channel.Channel.{Channel}
-use Rattle.mum_tree.specs.declared.channel.Row.{Row}
-use Rattle.mum_tree.specs.declared.channel.TheConstants.{PATH_LIMIT}
-use Rattle.mum_tree.specs.Change.{with_given}
-use Rattle.mum_tree.specs.Rows.{is_root, is_there, number, path, row_of, upward}
-use Rattle.mum_tree.specs.State.{Pair, TreeState, changed}
-use Rattle.mum_state.specs.declared.edit.Edit.{Edit}
-use Rattle.mum_state.specs.declared.edit.Edit.TheVariants.{EditChannel, MakeChannel, RemoveChannel, SetAcl}
-use Rattle.mum_state.specs.Applied.{applied}
-use Rattle.mum_state.specs.Emptied.{empties, has_member, is_emptied, without_emptied}
-use Rattle.mum_state.specs.Kinds.{changes_paths}
-use Rattle.mum_state.specs.Parts.{channel_parts}
-use Rattle.mum_state.specs.Proper.{IsProper}
-use Rattle.mum_state.specs.Set.{set_by}
-use Rattle.mum_state.specs.State.{PolicyRow, StateValue}
-use Rattle.mum_state.specs.Suppression.{with_clearing, with_suppression}
-use Rattle.mum_state.proofs.Each.{Each, any_alike, any_map, each_fails, each_map, each_self, each_so, filter_stays, map_unseen, some_found}
-use Rattle.mum_state.proofs.Heard.{clearing_policies, clearing_tree, heard_members}
+use Rattle.mum_state.proofs.Common.{◌≡◌, ℕ, zero, suc, ◌==◌, ◌&&◌, not, Bool, true, false, cond, List, [], ◌∷◌, map, reverse, refl, sym, ap, subst, ◌∙◌, Option, Some, None, if◌then◌else◌, filter, find, list_any, option_map, option_map_or, eq-eqb, not_from_false, true≢false, none-some, same_Some, ChannelId, Channel, Row, PATH_LIMIT, with_given, is_there, number, path, row_of, upward, Pair, TreeState, changed, Edit, EditChannel, MakeChannel, RemoveChannel, SetAcl, applied, empties, has_member, is_emptied, without_emptied, changes_paths, channel_parts, IsProper, set_by, PolicyRow, StateValue, with_clearing, with_suppression}
+use Rattle.mum_tree.specs.Rows.{is_root}
+use Rattle.mum_state.proofs.{Each.Each, Each.any_alike, Each.any_map, Each.each_fails, Each.each_map, Each.each_self, Each.each_so, Each.filter_stays, Each.map_unseen, Each.some_found, Heard.clearing_policies, Heard.clearing_tree, Heard.heard_members}
 
 -- ---- what paths are made of
 
@@ -131,7 +110,7 @@ set_policies state (RemoveChannel id actor) quiet = absurd (true≢false quiet)
 set_policies state (SetAcl channel actor policy) quiet = absurd (true≢false quiet)
 set_policies state edit quiet = refl
 
--- who is there is told of by the sessions alone
+-- who is there is determined by the sessions alone
 emptied_alike : (before state other : StateValue) → state.tree ≡ other.tree
     → ((channel : ChannelId) → has_member state.roster.sessions channel ≡ has_member other.roster.sessions channel) → empties before state ≡ empties before other
 emptied_alike before state other same members =

@@ -1,9 +1,7 @@
 -- The state after a list of edits.
 use Rattle.std.specs.Prelude.{ℕ, ◌&&◌, Bool, true, List, [], ◌∷◌, fold, take}
 use Rattle.mum_state.specs.declared.edit.Edit.{Edit}
-use Rattle.mum_state.specs.Applied.{applied}
-use Rattle.mum_state.specs.Fits.{fits}
-use Rattle.mum_state.specs.State.{StateValue, empty_state}
+use Rattle.mum_state.specs.{Applied.applied, Fits.fits, State.StateValue, State.empty_state}
 
 -- the state to which edits lead from another
 abbrev pub led_to : StateValue → List Edit → StateValue

@@ -1,9 +1,6 @@
 -- The state after an edit.
 use Rattle.mum_state.specs.declared.edit.Edit.{Edit}
-use Rattle.mum_state.specs.Counts.{counts_after}
-use Rattle.mum_state.specs.Emptied.{without_emptied}
-use Rattle.mum_state.specs.Set.{set_by}
-use Rattle.mum_state.specs.State.{StateValue}
+use Rattle.mum_state.specs.{Counts.counts_after, Emptied.without_emptied, Set.set_by, State.StateValue}
 use Rattle.mum_state.specs.Suppression.{with_clearing, with_suppression}
 
 -- What the edit sets; who may speak, set again, and cleared where the same edit asks for it; without a temporary

@@ -1,17 +1,14 @@
 -- The channels of a state and their policies, apart from all else that it has.
 use Rattle.std.specs.Prelude.{ℕ, ◌==◌, ◌++◌, Bool, false, List, [], ◌∷◌, filter, find, Option, Some, None, if◌then◌else◌}
 use Rattle.std.specs.Option.{option_map}
-use Rattle.mum_base.specs.declared.number.ChannelId.{ChannelId}
-use Rattle.mum_base.specs.declared.number.TheConstants.ChannelId.{ROOT}
+use Rattle.mum_base.specs.declared.number.{ChannelId.ChannelId, TheConstants.ChannelId.ROOT}
 use Rattle.mum_base.specs.declared.perm.TheConstants.Perm.{SPEAK}
-use Rattle.mum_policy.specs.Member.{Actor, PolicyMap}
-use Rattle.mum_policy.specs.Walk.{holds, perm, visits}
+use Rattle.mum_policy.specs.{Member.Actor, Member.PolicyMap, Walk.holds, Walk.perm, Walk.visits}
 use Rattle.mum_tree.specs.declared.channel.ChannelInfo.{ChannelInfo}
 use Rattle.mum_tree.specs.Rows.{is_there, path}
 use Rattle.mum_tree.specs.State.{TreeState, root_alone, with_info, with_new, without_subtree}
 use Rattle.mum_users.specs.declared.user.User.{User}
-use Rattle.mum_state.specs.Permissions.{actor_from}
-use Rattle.mum_state.specs.State.{PolicyRow, StateValue, policy_row}
+use Rattle.mum_state.specs.{Permissions.actor_from, State.PolicyRow, State.StateValue, State.policy_row}
 
 pub record ChannelsState : Type 0 where
   pub tree : TreeState
@@ -42,7 +39,8 @@ granted_where_in channels who channel =
 -- how many entries are read for that
 abbrev pub visits_in : ChannelsState → Actor → ChannelId → ℕ
 visits_in channels who channel =
-    if is_there channels.tree.channels channel then visits (policy_map channels) (path channels.tree.channels channel) who else 0
+    if is_there channels.tree.channels channel then visits (policy_map channels)
+    (path channels.tree.channels channel) who else 0
 
 -- the session may speak where it is
 abbrev pub speaks_in : ChannelsState → User → Bool

@@ -3,11 +3,8 @@ use Rattle.std.specs.Prelude.{ℕ, ◌+◌, ◌==◌, ◌&&◌, ◌||◌, not, B
 use Rattle.std.specs.List.{list_any}
 use Rattle.mum_base.specs.declared.number.Slot.{Slot}
 use Rattle.mum_state.specs.declared.edit.Edit.{Edit}
-use Rattle.mum_state.specs.Emptied.{empties}
-use Rattle.mum_state.specs.Kinds.{changes_paths, changes_routes, is_of_configuration}
-use Rattle.mum_state.specs.Set.{set_by}
-use Rattle.mum_state.specs.State.{Counts, StateValue}
-use Rattle.mum_state.specs.Suppression.{is_renewed}
+use Rattle.mum_state.specs.{Emptied.empties, Kinds.changes_paths, Kinds.changes_routes, Kinds.is_of_configuration}
+use Rattle.mum_state.specs.{Set.set_by, State.Counts, State.StateValue, Suppression.is_renewed}
 
 -- one more where it holds
 abbrev pub raised_where : Bool → ℕ → ℕ
@@ -21,7 +18,8 @@ raised_slots holds slot (count ∷ counts) = raised_where (holds slot) count ∷
 -- the session that then is in the slot joined, entered another channel, or had its tokens set
 abbrev pub renews : StateValue → Edit → ℕ → Bool
 renews state edit slot =
-    list_any (λ user. (user.slot.0 == slot) && is_renewed state.roster.sessions edit user) (set_by state edit).roster.sessions
+    list_any (λ user. (user.slot.0 == slot) && is_renewed state.roster.sessions edit user)
+    (set_by state edit).roster.sessions
 
 -- the revision counts the edits that sessions make. The policy count is of those that make, move or remove channels,
 -- also a temporary one that empties, or set a policy

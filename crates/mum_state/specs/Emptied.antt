@@ -6,8 +6,7 @@ use Rattle.mum_tree.specs.declared.channel.Row.{Row}
 use Rattle.mum_tree.specs.State.{without_rows}
 use Rattle.mum_users.specs.declared.user.User.{User}
 use Rattle.mum_users.specs.State.{is_in}
-use Rattle.mum_state.specs.Set.{with_tree}
-use Rattle.mum_state.specs.State.{StateValue}
+use Rattle.mum_state.specs.{Set.with_tree, State.StateValue}
 
 -- somebody is in the channel
 abbrev pub has_member : List User → ChannelId → Bool
@@ -25,4 +24,6 @@ empties before state = list_any (is_emptied before.roster.sessions state.roster.
 -- such a channel goes, with its links, its listeners and its policy. Nothing is below a temporary channel
 abbrev pub without_emptied : StateValue → StateValue → StateValue
 without_emptied before state =
-    with_tree state (without_rows state.tree (filter (λ row. not (is_emptied before.roster.sessions state.roster.sessions row)) state.tree.channels))
+    with_tree state
+    (without_rows state.tree
+    (filter (λ row. not (is_emptied before.roster.sessions state.roster.sessions row)) state.tree.channels))

@@ -1,24 +1,17 @@
 -- Which edits fit a state.
 use Rattle.std.specs.Prelude.{ℕ, ◌+◌, ◌==◌, ◌&&◌, ◌||◌, not, nat_le, nat_lt, Bool, true, length, Option, is_none, if◌then◌else◌}
-use Rattle.std.specs.List.{list_any}
-use Rattle.std.specs.Option.{option_map_or}
+use Rattle.std.specs.{List.list_any, Option.option_map_or}
 use Rattle.mum_base.specs.declared.number.TheConstants.{PLACES, SLOTS}
-use Rattle.mum_tree.specs.Change.{fault_of_edit}
-use Rattle.mum_tree.specs.Refusals.{fault_of_add, fault_of_remove}
+use Rattle.mum_tree.specs.{Change.fault_of_edit, Refusals.fault_of_add, Refusals.fault_of_remove}
 use Rattle.mum_users.specs.declared.target.TheConstants.{LAST_TARGET}
-use Rattle.mum_users.specs.Edit.{edit_fault}
-use Rattle.mum_users.specs.Sessions.{join_fault, next_number, next_slot}
-use Rattle.mum_users.specs.State.{are_tokens, is_context}
-use Rattle.mum_users.specs.Targets.{is_oversize}
-use Rattle.mum_state.specs.declared.account.TheConstants.{ACCOUNT_LIMIT}
-use Rattle.mum_state.specs.declared.count.TheConstants.{EDIT_LIMIT}
-use Rattle.mum_state.specs.declared.edit.Edit.{Edit}
+use Rattle.mum_users.specs.{Edit.edit_fault, Sessions.join_fault, Sessions.next_number, Sessions.next_slot}
+use Rattle.mum_users.specs.{State.are_tokens, State.is_context, Targets.is_oversize}
+use Rattle.mum_state.specs.declared.{account.TheConstants.ACCOUNT_LIMIT, count.TheConstants.EDIT_LIMIT, edit.Edit.Edit}
 use Rattle.mum_state.specs.declared.edit.Edit.TheVariants.{AddAccount, Join, MakeChannel, RemoveChannel, SetAcl, SetLimits, SetServer, SetTarget, SetTokens}
-use Rattle.mum_state.specs.Kinds.{changes_paths, changes_routes, is_of_configuration}
-use Rattle.mum_state.specs.Named.{names_there}
+use Rattle.mum_state.specs.{Kinds.changes_paths, Kinds.changes_routes, Kinds.is_of_configuration, Named.names_there}
 use Rattle.mum_state.specs.Parts.{ChannelEdit, SessionEdit, by_parts}
-use Rattle.mum_state.specs.Proper.{is_name, is_short, is_sound_policy, is_text}
 use Rattle.mum_state.specs.State.{StateValue, has_account, is_named}
+use Rattle.mum_state.specs.Proper.{is_name, is_short, is_sound_policy, is_text}
 
 -- it holds of the value that is given, if one is
 abbrev pub holds_of_given : {X : Type 0} → (X → Bool) → Option X → Bool
@@ -31,7 +24,8 @@ gives_right_numbers state (Join session slot name account tokens) =
     (session.0 == (next_number state.roster).0) && (slot.0 == (next_slot state.roster).0)
 gives_right_numbers state (MakeChannel id parent name temporary info maker) = nat_lt state.tree.greatest id.0
 gives_right_numbers state (SetTarget session id target) = not ((id == 0) || nat_lt LAST_TARGET id)
-gives_right_numbers state (SetLimits sessions channels) = nat_le state.roster.limit sessions && nat_le state.tree.limit channels
+gives_right_numbers state (SetLimits sessions channels) =
+    nat_le state.roster.limit sessions && nat_le state.tree.limit channels
 gives_right_numbers state edit = true
 
 -- no cause refuses the change of a channel, and its name and its description are as they may be
@@ -78,4 +72,5 @@ is_countable state edit =
 -- whom and what it names is there, the numbers that it gives are right, what it sets is as it may be, and it can be
 -- counted
 abbrev pub fits : StateValue → Edit → Bool
-fits state edit = names_there state edit && gives_right_numbers state edit && sets_properly state edit && is_countable state edit
+fits state edit =
+    names_there state edit && gives_right_numbers state edit && sets_properly state edit && is_countable state edit

@@ -59,7 +59,8 @@ changes_ways edit =
 -- it changes where the session is, to what it listens, or whether it speaks or hears
 abbrev pub changes_hearing : SessionEdit → Bool
 changes_hearing edit =
-    not (is_none edit.change.channel && is_none edit.change.flags.mute && is_none edit.change.flags.deaf && not edit.clear_suppress
+    not (is_none edit.change.channel && is_none edit.change.flags.mute && is_none edit.change.flags.deaf
+    && not edit.clear_suppress
     && is_none edit.change.flags.self_mute && is_none edit.change.flags.self_deaf
     && is_empty edit.change.listen && is_empty edit.change.unlisten)
 

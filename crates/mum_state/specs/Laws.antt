@@ -1,36 +1,27 @@
 -- What holds of all edits and of all lists of edits.
 use Rattle.std.specs.Prelude.{◌≡◌, ℕ, ◌≤◌, ◌↔◌, false, not, List, [], ◌∷◌, Some, IsTrue, ⊤}
-use Rattle.std.specs.List.{list_any}
-use Rattle.std.specs.Option.{option_map}
-use Rattle.mum_base.specs.declared.number.ChannelId.{ChannelId}
-use Rattle.mum_base.specs.declared.number.SessionId.{SessionId}
-use Rattle.mum_base.specs.declared.number.Slot.{Slot}
+use Rattle.std.specs.{List.list_any, Option.option_map}
+use Rattle.mum_base.specs.declared.number.{ChannelId.ChannelId, SessionId.SessionId, Slot.Slot}
 use Rattle.mum_tree.specs.Rows.{is_there, row_of}
 use Rattle.mum_users.specs.declared.user.User.{User}
-use Rattle.mum_users.specs.Sessions.{session_of}
-use Rattle.mum_users.specs.State.{has_number}
+use Rattle.mum_users.specs.{Sessions.session_of, State.has_number}
 use Rattle.mum_state.specs.declared.edit.Edit.{Edit}
-use Rattle.mum_state.specs.After.{all_fit, led_to}
-use Rattle.mum_state.specs.Applied.{applied}
-use Rattle.mum_state.specs.Counts.{slot_count}
-use Rattle.mum_state.specs.Fits.{fits, gives_right_numbers}
-use Rattle.mum_state.specs.Named.{names_there}
-use Rattle.mum_state.specs.Permissions.{may_speak, perm_of}
-use Rattle.mum_state.specs.Proper.{IsProper}
-use Rattle.mum_state.specs.Routed.{route_inputs}
-use Rattle.mum_state.specs.Set.{set_by}
-use Rattle.mum_state.specs.State.{Counts, StateValue}
-use Rattle.mum_state.specs.Suppression.{is_cleared, is_set_anew}
+use Rattle.mum_state.specs.{After.all_fit, After.led_to, Applied.applied, Counts.slot_count}
+use Rattle.mum_state.specs.{Fits.fits, Fits.gives_right_numbers, Named.names_there}
+use Rattle.mum_state.specs.{Permissions.may_speak, Permissions.perm_of, Proper.IsProper, Routed.route_inputs}
+use Rattle.mum_state.specs.{Set.set_by, State.Counts, State.StateValue, Suppression.is_cleared, Suppression.is_set_anew}
 
 -- edits that fit lead from a proper state to a proper one
 abbrev pub KeepsProper : Type 0
 KeepsProper =
-    (state : StateValue) (edits : List Edit) → IsProper state → IsTrue (all_fit state edits) → IsProper (led_to state edits)
+    (state : StateValue) (edits : List Edit) → IsProper state → IsTrue (all_fit state edits)
+    → IsProper (led_to state edits)
 
 -- one that names what is there, and gives right numbers, fits exactly where what it sets is proper and what it leaves is
 abbrev pub FitsWhereProper : Type 0
 FitsWhereProper =
-    (state : StateValue) (edit : Edit) → IsProper state → IsTrue (names_there state edit) → IsTrue (gives_right_numbers state edit)
+    (state : StateValue) (edit : Edit) → IsProper state → IsTrue (names_there state edit)
+    → IsTrue (gives_right_numbers state edit)
     → IsTrue (fits state edit) ↔ (IsProper (set_by state edit) × IsProper (applied state edit))
 
 -- each number is at most that at its place
@@ -62,14 +53,17 @@ IsInSlot state session slot = option_map (λ user. user.slot) (session_of state.
 abbrev pub SeatsStand : Type 0
 SeatsStand =
     (state : StateValue) (edits : List Edit) → IsProper state → IsTrue (all_fit state edits)
-    → ((session : SessionId) (slot later : Slot) → IsInSlot state session slot → IsInSlot (led_to state edits) session later → slot ≡ later)
-    × ((channel : ChannelId) (place later : ℕ) → HasPlace state channel place → HasPlace (led_to state edits) channel later → place ≡ later)
+    → ((session : SessionId) (slot later : Slot) → IsInSlot state session slot
+    → IsInSlot (led_to state edits) session later → slot ≡ later)
+    × ((channel : ChannelId) (place later : ℕ) → HasPlace state channel place
+    → HasPlace (led_to state edits) channel later → place ≡ later)
 
 -- the greatest numbers that channels and sessions had never fall
 abbrev pub NumbersNeverFall : Type 0
 NumbersNeverFall =
     (state : StateValue) (edits : List Edit) → IsTrue (all_fit state edits)
-    → (state.tree.greatest ≤ (led_to state edits).tree.greatest) × (state.roster.last ≤ (led_to state edits).roster.last)
+    → (state.tree.greatest ≤ (led_to state edits).tree.greatest)
+    × (state.roster.last ≤ (led_to state edits).roster.last)
 
 -- who joins, enters another channel or has its tokens set is suppressed exactly where it may not speak in its channel
 -- after the edit, and so is everybody where a policy is set; but for whom the same edit lets speak
@@ -85,7 +79,8 @@ abbrev pub PresentWasPresent : Type 0
 PresentWasPresent =
     (state : StateValue) (edits : List Edit) → IsTrue (all_fit state edits)
     → ((session : SessionId) → session.0 ≤ state.roster.last
-    → IsTrue (list_any (has_number session) (led_to state edits).roster.sessions) → IsTrue (list_any (has_number session) state.roster.sessions))
+    → IsTrue (list_any (has_number session) (led_to state edits).roster.sessions)
+    → IsTrue (list_any (has_number session) state.roster.sessions))
     × ((channel : ChannelId) → channel.0 ≤ state.tree.greatest
     → IsTrue (is_there (led_to state edits).tree.channels channel) → IsTrue (is_there state.tree.channels channel))
 

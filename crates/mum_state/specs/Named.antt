@@ -1,16 +1,12 @@
 -- Whom and what an edit names that must be there.
 use Rattle.std.specs.Prelude.{◌&&◌, Bool, true, List, [], ◌∷◌, ◌++◌, Option, None}
-use Rattle.std.specs.List.{list_all, list_any}
-use Rattle.std.specs.Option.{option_map_or}
-use Rattle.mum_base.specs.declared.number.AccountId.{AccountId}
-use Rattle.mum_base.specs.declared.number.ChannelId.{ChannelId}
-use Rattle.mum_base.specs.declared.number.SessionId.{SessionId}
+use Rattle.std.specs.{List.list_all, List.list_any, Option.option_map_or}
+use Rattle.mum_base.specs.declared.number.{AccountId.AccountId, ChannelId.ChannelId, SessionId.SessionId}
 use Rattle.mum_tree.specs.Rows.{is_there}
 use Rattle.mum_users.specs.State.{has_number}
 use Rattle.mum_state.specs.declared.edit.Edit.{Edit}
 use Rattle.mum_state.specs.declared.edit.Edit.TheVariants.{Join, Kick, Leave, MakeChannel, RemoveChannel, SetAcl, SetTarget, SetTokens, Text}
-use Rattle.mum_state.specs.Parts.{by_parts}
-use Rattle.mum_state.specs.State.{StateValue, has_account}
+use Rattle.mum_state.specs.{Parts.by_parts, State.StateValue, State.has_account}
 
 -- the value that is given, or none
 abbrev pub given : {X : Type 0} → Option X → List X
@@ -34,7 +30,8 @@ named_channels (MakeChannel id parent name temporary info maker) = parent ∷ []
 named_channels (RemoveChannel id actor) = id ∷ []
 named_channels (SetAcl channel actor policy) = channel ∷ []
 named_channels edit =
-    by_parts (λ channel. channel.channel ∷ (given channel.change.parent ++ channel.change.links_add ++ channel.change.links_remove))
+    by_parts (λ channel. channel.channel
+    ∷ (given channel.change.parent ++ channel.change.links_add ++ channel.change.links_remove))
     (λ user. given user.change.channel ++ user.change.listen ++ user.change.unlisten) [] edit
 
 -- nor are the accounts of a policy

@@ -1,15 +1,14 @@
 -- Edits of several parts, as the tree and the roster know them.
 use Rattle.std.specs.Prelude.{ℕ, ℤ, Bool, List, Option, Some, None}
 use Rattle.std.specs.Option.{option_map, option_map_or}
-use Rattle.mum_base.specs.declared.number.ChannelId.{ChannelId}
-use Rattle.mum_base.specs.declared.number.SessionId.{SessionId}
+use Rattle.mum_base.specs.declared.number.{ChannelId.ChannelId, SessionId.SessionId}
 use Rattle.mum_tree.specs.Change.{Change}
 use Rattle.mum_users.specs.Edit.{UserEdit}
-use Rattle.mum_state.specs.declared.edit.Edit.{Edit}
-use Rattle.mum_state.specs.declared.edit.Edit.TheVariants.{EditChannel, SetUser}
+use Rattle.mum_state.specs.declared.edit.Edit.{Edit, TheVariants.EditChannel, TheVariants.SetUser}
 
 -- these parts of a channel become others
-abbrev pub channel_parts : Option (List ℕ) → Option ChannelId → Option (List ℕ) → Option ℤ → Option ℕ → List ChannelId → List ChannelId → Change
+abbrev pub channel_parts : Option (List ℕ) → Option ChannelId → Option (List ℕ) → Option ℤ → Option ℕ → List ChannelId
+    → List ChannelId → Change
 channel_parts name parent description position max_users links_add links_remove = record {
   name = name;
   parent = parent;
@@ -21,7 +20,8 @@ channel_parts name parent description position max_users links_add links_remove 
 }
 
 -- these parts of a session become others; whether it may speak where it is, is none of them
-abbrev pub user_parts : Option ChannelId → Option Bool → Option Bool → Option Bool → Option Bool → Option Bool → Option Bool
+abbrev pub user_parts : Option ChannelId → Option Bool → Option Bool → Option Bool → Option Bool → Option Bool
+    → Option Bool
     → Option (List ℕ) → Option (List ℕ) → List ChannelId → List ChannelId → UserEdit
 user_parts channel mute deaf priority self_mute self_deaf recording comment context listen unlisten = record {
   channel = channel;

@@ -1,13 +1,10 @@
 -- What a session may do in a channel.
 use Rattle.std.specs.Prelude.{ℕ, Bool, List, Option, Some, None, unwrap_or, if◌then◌else◌}
 use Rattle.std.specs.Option.{option_map}
-use Rattle.mum_base.specs.declared.number.ChannelId.{ChannelId}
-use Rattle.mum_base.specs.declared.number.SessionId.{SessionId}
+use Rattle.mum_base.specs.declared.number.{ChannelId.ChannelId, SessionId.SessionId}
 use Rattle.mum_base.specs.declared.perm.TheConstants.Perm.{SPEAK}
-use Rattle.mum_policy.specs.Member.{Actor}
-use Rattle.mum_policy.specs.Walk.{holds, perm, visits}
-use Rattle.mum_tree.specs.Rows.{is_there, path}
-use Rattle.mum_tree.specs.State.{TreeState}
+use Rattle.mum_policy.specs.{Member.Actor, Walk.holds, Walk.perm, Walk.visits}
+use Rattle.mum_tree.specs.{Rows.is_there, Rows.path, State.TreeState}
 use Rattle.mum_users.specs.declared.user.User.{User}
 use Rattle.mum_users.specs.Sessions.{session_of}
 use Rattle.mum_state.specs.State.{StateValue, policy_of}
@@ -44,7 +41,8 @@ granted_where_there state who channel =
 -- the session, where it and the channel are there
 abbrev pub actor_in : StateValue → SessionId → ChannelId → Option Actor
 actor_in state session channel =
-    if is_there state.tree.channels channel then option_map (actor_from state.tree) (session_of state.roster session) else None
+    if is_there state.tree.channels channel then option_map (actor_from state.tree)
+    (session_of state.roster session) else None
 
 -- what a session may do in a channel; nothing is said where one of the two is not there
 abbrev pub perm_of : StateValue → SessionId → ChannelId → Option ℕ
@@ -54,4 +52,5 @@ perm_of state session channel =
 -- how many entries are read for that
 abbrev pub visits_of : StateValue → SessionId → ChannelId → ℕ
 visits_of state session channel =
-    unwrap_or (option_map (λ who. visits (policy_of state) (path state.tree.channels channel) who) (actor_in state session channel)) 0
+    unwrap_or (option_map (λ who. visits (policy_of state) (path state.tree.channels channel) who)
+    (actor_in state session channel)) 0

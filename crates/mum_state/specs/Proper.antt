@@ -2,23 +2,15 @@
 use Rattle.std.specs.Prelude.{◌≡◌, ◌≢◌, ℕ, ◌+◌, ◌≤◌, ◌&&◌, not, Bool, List, length, map, is_none, nat_le, IsTrue}
 use Rattle.std.specs.List.{list_all, All, AllPairs}
 use Rattle.mum_base.specs.Name.{name_fault, text_fault}
-use Rattle.mum_base.specs.declared.name.TheConstants.{NAME_LIMIT}
-use Rattle.mum_base.specs.declared.perm.Perm.{Perm}
-use Rattle.mum_base.specs.declared.perm.TheConstants.Perm.{ALL}
-use Rattle.mum_policy.specs.declared.policy.AclEntry.{AclEntry}
-use Rattle.mum_policy.specs.declared.policy.ChannelPolicy.{ChannelPolicy}
-use Rattle.mum_policy.specs.Limits.{is_large_policy}
-use Rattle.mum_policy.specs.Walk.{holds}
-use Rattle.mum_tree.specs.Proper.{IsProper as IsProperTree}
-use Rattle.mum_tree.specs.Rows.{is_there}
-use Rattle.mum_tree.specs.declared.channel.Row.{Row}
-use Rattle.mum_users.specs.Order.{Rises}
-use Rattle.mum_users.specs.Proper.{IsProper as IsProperRoster}
-use Rattle.mum_users.specs.State.{are_tokens, is_context}
+use Rattle.mum_base.specs.declared.{name.TheConstants.NAME_LIMIT, perm.Perm.Perm, perm.TheConstants.Perm.ALL}
 use Rattle.mum_base.specs.declared.number.TheConstants.{SLOTS}
+use Rattle.mum_policy.specs.declared.policy.{AclEntry.AclEntry, ChannelPolicy.ChannelPolicy}
+use Rattle.mum_policy.specs.{Limits.is_large_policy, Walk.holds}
+use Rattle.mum_tree.specs.{Proper.IsProper as IsProperTree, Rows.is_there}
+use Rattle.mum_tree.specs.declared.channel.Row.{Row}
+use Rattle.mum_users.specs.{Order.Rises, Proper.IsProper as IsProperRoster, State.are_tokens, State.is_context}
 use Rattle.mum_users.specs.declared.user.User.{User}
-use Rattle.mum_state.specs.declared.account.Account.{Account}
-use Rattle.mum_state.specs.declared.account.TheConstants.{ACCOUNT_LIMIT}
+use Rattle.mum_state.specs.declared.account.{Account.Account, TheConstants.ACCOUNT_LIMIT}
 use Rattle.mum_state.specs.declared.count.TheConstants.{EDIT_LIMIT}
 use Rattle.mum_state.specs.State.{Counts, StateValue, account_below}
 
@@ -43,7 +35,8 @@ is_sound_entry entry = are_permissions entry.grant && are_permissions entry.deny
 -- within the limits, with good names of groups, and only permissions that there are
 abbrev pub is_sound_policy : ChannelPolicy → Bool
 is_sound_policy policy =
-    not (is_large_policy policy) && list_all (λ group. is_name group.name) policy.groups && list_all is_sound_entry policy.acls
+    not (is_large_policy policy) && list_all (λ group. is_name group.name) policy.groups
+    && list_all is_sound_entry policy.acls
 
 abbrev pub is_sound_channel : Row → Bool
 is_sound_channel row = is_name row.channel.name && is_text row.channel.info.description

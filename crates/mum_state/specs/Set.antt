@@ -1,17 +1,12 @@
 -- What each edit sets, before what follows from it.
 use Rattle.std.specs.Prelude.{ℕ, ◌==◌, Bool, List, [], ◌∷◌, ◌++◌, not, filter, map, Option, Some, None, if◌then◌else◌}
-use Rattle.mum_base.specs.declared.number.ChannelId.{ChannelId}
-use Rattle.mum_base.specs.declared.number.SessionId.{SessionId}
+use Rattle.mum_base.specs.declared.number.{ChannelId.ChannelId, SessionId.SessionId}
 use Rattle.mum_policy.specs.declared.policy.ChannelPolicy.{ChannelPolicy}
-use Rattle.mum_tree.specs.Change.{with_change}
-use Rattle.mum_tree.specs.Refusals.{parent_of}
-use Rattle.mum_tree.specs.Rows.{is_below, is_there}
+use Rattle.mum_tree.specs.{Change.with_change, Refusals.parent_of, Rows.is_below, Rows.is_there}
 use Rattle.mum_tree.specs.State.{TreeState, with_info, with_new, without_subtree}
 use Rattle.mum_users.specs.declared.user.User.{User}
-use Rattle.mum_users.specs.Edit.{edited}
-use Rattle.mum_users.specs.Listeners.{without_channels}
+use Rattle.mum_users.specs.{Edit.edited, Listeners.without_channels, Targets.targeted}
 use Rattle.mum_users.specs.Sessions.{joined, left, placed, with_tokens}
-use Rattle.mum_users.specs.Targets.{targeted}
 use Rattle.mum_state.specs.declared.edit.Edit.{Edit}
 use Rattle.mum_state.specs.declared.edit.Edit.TheVariants.{AddAccount, Join, Kick, Leave, MakeChannel, RemoveChannel, SetAcl, SetLimits, SetServer, SetTarget, SetTokens}
 use Rattle.mum_state.specs.Parts.{by_parts}
@@ -70,7 +65,8 @@ set_by state (Join session slot name account tokens) =
 set_by state (Leave session) = record state { roster = left state.roster session }
 set_by state (Kick session actor reason ban) = record state { roster = left state.roster session }
 set_by state (MakeChannel id parent name temporary info maker) =
-    with_maker_in (with_made state (with_info (with_new state.tree id parent name temporary) id info) id) id temporary maker
+    with_maker_in
+    (with_made state (with_info (with_new state.tree id parent name temporary) id info) id) id temporary maker
 set_by state (RemoveChannel id actor) = with_tree (with_members_moved_up state id) (without_subtree state.tree id)
 set_by state (SetTokens session tokens) = record state { roster = with_tokens state.roster session tokens }
 set_by state (SetTarget session id target) = record state { roster = targeted state.roster session id target }

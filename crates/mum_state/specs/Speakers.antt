@@ -1,9 +1,8 @@
 -- Whether sessions may speak where they are: who is asked, and who may do the same.
 use Rattle.std.specs.Prelude.{◌==◌, ◌&&◌, ◌||◌, Bool, length, is_none}
 use Rattle.mum_users.specs.declared.user.User.{User}
-use Rattle.mum_state.specs.Channels.{ChannelsState, speaks_where_in}
+use Rattle.mum_state.specs.{Channels.ChannelsState, Channels.speaks_where_in, Renewed.is_renewed_slot}
 use Rattle.mum_state.specs.declared.renewed.Renewed.{Renewed}
-use Rattle.mum_state.specs.Renewed.{is_renewed_slot}
 
 -- those in these slots, or all
 abbrev pub is_heard : Renewed → Bool → User → Bool
@@ -17,6 +16,6 @@ is_speaker renewed all channels user = is_heard renewed all user && speaks_where
 abbrev pub is_plain : User → Bool
 is_plain user = is_none user.account && (length user.tokens == 0)
 
--- both are so, and are in one channel: entries and groups do not tell them apart
+-- both are so, and are in one channel: entries and groups do not distinguish them
 abbrev pub are_alike : User → User → Bool
 are_alike user other = is_plain user && is_plain other && (user.channel.0 == other.channel.0)

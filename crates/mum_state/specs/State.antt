@@ -1,20 +1,14 @@
 -- What the server knows, as plain data.
 use Rattle.std.specs.Prelude.{ℕ, ◌==◌, Bool, true, List, [], ◌∷◌, find, replicate, Option, None, if◌then◌else◌}
-use Rattle.std.specs.Cmp.Lexicographic.{slice_cmp}
-use Rattle.std.specs.List.{list_any}
-use Rattle.std.specs.Option.{option_map}
-use Rattle.std.specs.Ordering.{is_lt, nat_cmp}
+use Rattle.std.specs.{Cmp.Lexicographic.slice_cmp, List.list_any, Option.option_map, Ordering.is_lt, Ordering.nat_cmp}
 use Rattle.std.specs.Str.{bytes_eq}
-use Rattle.mum_base.specs.declared.number.AccountId.{AccountId}
-use Rattle.mum_base.specs.declared.number.ChannelId.{ChannelId}
-use Rattle.mum_base.specs.declared.number.TheConstants.ChannelId.{ROOT}
+use Rattle.mum_base.specs.declared.number.{AccountId.AccountId, ChannelId.ChannelId, TheConstants.ChannelId.ROOT}
+use Rattle.mum_base.specs.declared.number.TheConstants.{SLOTS}
 use Rattle.mum_policy.specs.declared.policy.ChannelPolicy.{ChannelPolicy}
 use Rattle.mum_policy.specs.Member.{PolicyMap}
 use Rattle.mum_tree.specs.State.{TreeState, root_alone}
-use Rattle.mum_base.specs.declared.number.TheConstants.{SLOTS}
 use Rattle.mum_users.specs.State.{RosterState, empty_roster}
-use Rattle.mum_state.specs.declared.account.Account.{Account}
-use Rattle.mum_state.specs.declared.server.Server.{Server}
+use Rattle.mum_state.specs.declared.{account.Account.Account, server.Server.Server}
 use Rattle.mum_state.specs.declared.server.TheConstants.{DEFAULT_BANDWIDTH}
 
 -- a channel's policy

@@ -1,15 +1,11 @@
 -- Whether a session may speak where it is: for whom this is set again, and from what.
 use Rattle.std.specs.Prelude.{◌&&◌, ◌||◌, Bool, false, not, List, map, Option, Some, None, if◌then◌else◌}
-use Rattle.std.specs.List.{list_any}
-use Rattle.std.specs.Option.{option_map_or}
+use Rattle.std.specs.{List.list_any, Option.option_map_or}
 use Rattle.mum_users.specs.declared.user.User.{User}
-use Rattle.mum_users.specs.Sessions.{suppressed}
-use Rattle.mum_users.specs.State.{has_number, is_in}
+use Rattle.mum_users.specs.{Sessions.suppressed, State.has_number, State.is_in}
 use Rattle.mum_state.specs.declared.edit.Edit.{Edit}
-use Rattle.mum_state.specs.Kinds.{sets_policy, sets_tokens_of}
-use Rattle.mum_state.specs.Parts.{SessionEdit, session_edit}
-use Rattle.mum_state.specs.Permissions.{may_speak}
-use Rattle.mum_state.specs.State.{StateValue}
+use Rattle.mum_state.specs.{Kinds.sets_policy, Kinds.sets_tokens_of, Parts.SessionEdit, Parts.session_edit}
+use Rattle.mum_state.specs.{Permissions.may_speak, State.StateValue}
 
 -- the session was not in this channel before: it joined, or it was in another. One under which its channel was
 -- moved is in the same
@@ -26,7 +22,8 @@ is_set_anew before edit user = is_renewed before edit user || sets_policy edit
 
 -- the same edit lets it speak
 abbrev pub is_cleared : Edit → User → Bool
-is_cleared edit user = option_map_or (λ one. one.clear_suppress && has_number one.session user) (session_edit edit) false
+is_cleared edit user =
+    option_map_or (λ one. one.clear_suppress && has_number one.session user) (session_edit edit) false
 
 -- by what it may do now
 abbrev pub heard_anew : StateValue → User → User

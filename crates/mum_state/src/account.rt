@@ -31,7 +31,7 @@ impl Account {
     }
 }
 
-/// Equal accounts in the same order.
+// Equal accounts in the same order.
 pub(crate) fn copy_of_accounts(
     alloc: Global,
     accounts: &[Account],

@@ -13,7 +13,7 @@ use mum_base::{AccountId, OutOfMemory};
 use std::alloc::Global;
 use std::marker::Model;
 
-/// Accounts, each under a name and a number of its own. Contracts see them by their names.
+// Accounts, each under a name and a number of its own. Contracts see them by their names.
 #[derive(Drop)]
 pub(crate) struct Accounts {
     by_name: Vec<Account>,
@@ -63,7 +63,7 @@ fn is_at(accounts: &[Account], place: usize, name: &str) -> bool
     place < accounts.len() && accounts[place].name.as_str() == name
 }
 
-/// The account of a name, found by binary search.
+// The account of a name, found by binary search.
 fn find_account<'a>(accounts: &'a [Account], name: &str) -> Option<&'a Account>
     requires { Rises account_below accounts.now }
     ensures { option_copied result ≡ find (is_named name.now) accounts.now }
@@ -133,7 +133,7 @@ impl Accounts {
         }
     }
 
-    /// Equal accounts.
+    // Equal accounts.
     pub(crate) fn copy(&self, alloc: Global) -> Result<Accounts, OutOfMemory>
         ensures { IfOk result (λ copy. copy ≡ self.now) }
     {
@@ -149,29 +149,29 @@ impl Accounts {
         self.by_name.len()
     }
 
-    /// The account of a name, found by binary search.
+    // The account of a name, found by binary search.
     pub(crate) fn named(&self, name: &str) -> Option<&Account>
         ensures { option_copied result ≡ find (is_named name.now) self.now }
     {
         find_account(self.by_name.as_slice(), name)
     }
 
-    /// Whether an account has the name.
+    // Whether an account has the name.
     pub(crate) fn has_name(&self, name: &str) -> bool
         ensures { result ≡ list_any (is_named name.now) self.now }
     {
         self.named(name).is_some()
     }
 
-    /// Whether an account has the number, found by binary search.
+    // Whether an account has the number, found by binary search.
     pub(crate) fn has_number(&self, number: AccountId) -> bool
         ensures { result ≡ list_any (is_numbered number) self.now }
     {
         has_number(self.numbers.as_slice(), number)
     }
 
-    /// One account more, under a name and a number that none has. After it ran out of memory the accounts
-    /// are as they were.
+    // One account more, under a name and a number that none has. After it ran out of memory the accounts
+    // are as they were.
     pub(crate) fn add(&mut self, account: Account) -> Result<(), OutOfMemory>
         requires name { list_any (is_named account.name) self.old ≡ false }
         requires number { list_any (is_numbered account.account) self.old ≡ false }

@@ -92,7 +92,8 @@ impl Parts {
     // The same for those in renewed slots, or for all.
     fn hear_each(&mut self, renewed: &Renewed, all: bool)
         requires proper { IsProperRoster self.old.roster }
-        requires inside { IsTrue (list_all (λ user. is_there self.old.tree.channels user.channel) self.old.roster.sessions) }
+        requires inside { IsTrue
+            (list_all (λ user. is_there self.old.tree.channels user.channel) self.old.roster.sessions) }
         ensures { self.new ≡ heard_again renewed.now all self.old }
     {
         let hearing = Hearing {
@@ -112,7 +113,8 @@ impl Parts {
     // a policy was set.
     fn hear(&mut self, edit: &Edit, renewed: &Renewed)
         requires proper { IsProperRoster self.old.roster }
-        requires inside { IsTrue (list_all (λ user. is_there self.old.tree.channels user.channel) self.old.roster.sessions) }
+        requires inside { IsTrue
+            (list_all (λ user. is_there self.old.tree.channels user.channel) self.old.roster.sessions) }
         ensures { self.new ≡ heard_again renewed.now (sets_policy edit.now) self.old }
     {
         if sets_policy(edit) {
@@ -128,7 +130,8 @@ impl Parts {
 
     // The session of an edit may speak where the edit says so.
     fn clear_by(&mut self, edit: &Edit)
-        requires { IsTrue (list_all (λ session. list_any (has_number session) self.old.roster.sessions) (cleared_session edit.now)) }
+        requires { IsTrue
+            (list_all (λ session. list_any (has_number session) self.old.roster.sessions) (cleared_session edit.now)) }
         ensures { self.new ≡ with_clearing edit.now self.old }
     {
         match *edit {
@@ -178,7 +181,7 @@ impl Parts {
         raise_slots(&mut self.slot_counts, renewed);
     }
 
-    /// Makes an edit that fits. After it ran out of memory all is as it was.
+    // Makes an edit that fits. After it ran out of memory all is as it was.
     pub(crate) fn apply(&mut self, edit: &Edit) -> Result<(), OutOfMemory>
         requires proper { IsProper self.old }
         requires fits { IsTrue (fits self.old edit.now) }

@@ -29,7 +29,7 @@ fn bytes_of(octets: &Option<Octets>) -> Option<&[u8]>
     }
 }
 
-/// What becomes another of the channel that an edit changes, without a copy.
+// What becomes another of the channel that an edit changes, without a copy.
 pub(crate) fn channel_change(edit: &Edit) -> Option<ChannelChange<'_>>
     ensures { option_map change_of result ≡ channel_change edit.now }
 {
@@ -56,7 +56,7 @@ pub(crate) fn channel_change(edit: &Edit) -> Option<ChannelChange<'_>>
     }
 }
 
-/// What becomes another of the session that an edit changes, without a copy.
+// What becomes another of the session that an edit changes, without a copy.
 pub(crate) fn user_change(edit: &Edit) -> Option<UserChange<'_>>
     ensures { option_map user_edit_of result ≡ user_change edit.now }
 {

@@ -25,8 +25,8 @@ use std::alloc::{AllocError, Global};
 use std::marker::Model;
 use std::sync::ledger::Ledger;
 
-/// The channels, each with a policy. Contracts see the tree, and the policies in order of the
-/// channels' numbers.
+// The channels, each with a policy. Contracts see the tree, and the policies in order of the
+// channels' numbers.
 #[derive(Drop)]
 pub(crate) struct Channels {
     alloc: Global,
@@ -54,11 +54,12 @@ impl Model for Channels {
     ghost invariant = { λ c. record {
       proper : IsProper c.tree;
       whole : length c.policies.items ≡ c.tree.limit;
-      free : (place : ℕ) → has_place c.tree.channels place ≡ false → slice_index_or c.policies.items place open_policy ≡ open_policy;
+      free : (place : ℕ) → has_place c.tree.channels place ≡ false
+          → slice_index_or c.policies.items place open_policy ≡ open_policy;
     } };
 }
 
-/// The policy of a new channel: it inherits, and adds nothing.
+// The policy of a new channel: it inherits, and adds nothing.
 fn open_policy(alloc: Global) -> ChannelPolicy
     ensures { result ≡ open_policy }
 {
@@ -82,7 +83,7 @@ fn open_policies(alloc: Global, count: usize) -> Result<Vec<ChannelPolicy>, OutO
     Ok(policies)
 }
 
-/// Equal policies in the same order.
+// Equal policies in the same order.
 fn copy_of_policies(
     alloc: Global,
     policies: &[ChannelPolicy],
@@ -202,7 +203,7 @@ fn shrink(tree: &mut Tree, id: ChannelId)
 }
 
 impl Channels {
-    /// The root alone, with a policy that is open.
+    // The root alone, with a policy that is open.
     pub(crate) fn new(alloc: Global) -> Result<Channels, OutOfMemory>
         ensures root { IfOk result (λ channels. channels ≡ root_channel) }
         ensures proper { IfOk result (λ channels. IsProper channels.tree) }
@@ -214,7 +215,7 @@ impl Channels {
         })
     }
 
-    /// Equal channels, with their places.
+    // Equal channels, with their places.
     pub(crate) fn copy(&self, alloc: Global) -> Result<Channels, OutOfMemory>
         ensures { IfOk result (λ copy. copy ≡ self.now) }
     {
@@ -225,7 +226,7 @@ impl Channels {
         })
     }
 
-    /// The channels and their links.
+    // The channels and their links.
     pub(crate) fn tree(&self) -> &Tree
         ensures tree { result.now ≡ self.now.tree }
         ensures proper { IsProper self.now.tree }
@@ -233,7 +234,7 @@ impl Channels {
         &self.tree
     }
 
-    /// What the actor may do in a channel; `None` where there is no such channel.
+    // What the actor may do in a channel; `None` where there is no such channel.
     pub(crate) fn granted_to(&self, who: &Who<'_>, channel: ChannelId) -> Option<Perm>
         ensures { option_map (λ perm. perm.0) result
             ≡ granted_where_in self.now (actor_of who.now) channel }
@@ -244,7 +245,7 @@ impl Channels {
         }
     }
 
-    /// The same, with a step counted for each entry that is read.
+    // The same, with a step counted for each entry that is read.
     pub(crate) fn counted_to<L: Ledger>(
         &self,
         who: &Who<'_>,
@@ -262,7 +263,7 @@ impl Channels {
         }
     }
 
-    /// Whether a session may speak in the channel in which it is, if that is there.
+    // Whether a session may speak in the channel in which it is, if that is there.
     pub(crate) fn may_speak(&self, user: &User) -> bool
         ensures { result ≡ speaks_where_in self.now user.now }
     {
@@ -275,8 +276,8 @@ impl Channels {
         }
     }
 
-    /// One channel more, with this info and a policy that is open. After it ran out of memory the channels
-    /// are as they were.
+    // One channel more, with this info and a policy that is open. After it ran out of memory the channels
+    // are as they were.
     pub(crate) fn make(
         &mut self,
         id: ChannelId,
@@ -297,8 +298,8 @@ impl Channels {
         Ok(())
     }
 
-    /// Makes a change of a channel that no cause refuses. After it ran out of memory the channels are as they
-    /// were.
+    // Makes a change of a channel that no cause refuses. After it ran out of memory the channels are as they
+    // were.
     pub(crate) fn edit(
         &mut self,
         id: ChannelId,
@@ -313,7 +314,7 @@ impl Channels {
         Ok(())
     }
 
-    /// Takes away a channel and all below it, with their policies. It takes no memory.
+    // Takes away a channel and all below it, with their policies. It takes no memory.
     pub(crate) fn remove(&mut self, id: ChannelId)
         requires { fault_of_remove self.old.tree id ≡ None }
         ensures { self.new ≡ without_channel self.old id }
@@ -323,8 +324,8 @@ impl Channels {
         open_left_places(&before, &self.tree, &mut self.policies, self.alloc);
     }
 
-    /// Raises the limit of channels. The policy at each further place is open. After it ran out of memory the
-    /// channels are as they were.
+    // Raises the limit of channels. The policy at each further place is open. After it ran out of memory the
+    // channels are as they were.
     pub(crate) fn set_limit(&mut self, channels: u32) -> Result<(), OutOfMemory>
         requires raised { self.old.tree.limit ≤ channels }
         requires within { channels ≤ PLACES }
@@ -339,7 +340,7 @@ impl Channels {
         Ok(())
     }
 
-    /// Gives a channel another policy. It takes no memory.
+    // Gives a channel another policy. It takes no memory.
     pub(crate) fn set_policy(&mut self, id: ChannelId, policy: ChannelPolicy)
         requires { IsTrue (is_there self.old.tree.channels id) }
         ensures { self.new

@@ -423,7 +423,7 @@ impl Parts {
         }
     }
 
-    /// Whether an edit fits: whom and what it names is there, it is allowed, and it can be counted.
+    // Whether an edit fits: whom and what it names is there, it is allowed, and it can be counted.
     pub(crate) fn fits(&self, edit: &Edit) -> bool
         requires { self.now.counts.revision < 2 ^ 63 }
         ensures { result ≡ fits self.now edit.now }

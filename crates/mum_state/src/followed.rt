@@ -30,7 +30,7 @@ fn enters(channel: Option<ChannelId>, user: &User) -> bool
     }
 }
 
-/// Marks the slot, if it is to be marked.
+// Marks the slot, if it is to be marked.
 pub(crate) fn mark_where(marks: &mut [bool], slot: usize, is_marked: bool)
     requires { slot < length marks.old }
     ensures { marks.new ≡ slice_set marks.old slot (slice_index_or marks.old slot false || is_marked) }
@@ -103,7 +103,7 @@ impl Parts {
         }
     }
 
-    /// For whom an edit that fits makes what was computed of a session out of date.
+    // For whom an edit that fits makes what was computed of a session out of date.
     pub(crate) fn renewed_by(&self, edit: &Edit) -> Renewed
         requires proper { IsProper self.now }
         requires fits { IsTrue (fits self.now edit.now) }
@@ -148,7 +148,7 @@ impl Parts {
         }
     }
 
-    /// The temporary channel that an edit may empty.
+    // The temporary channel that an edit may empty.
     pub(crate) fn left_by(&self, edit: &Edit) -> Option<ChannelId>
         ensures { result ≡ left_by self.now edit.now }
     {

@@ -20,7 +20,7 @@ fn is_plain(user: &User) -> bool
     user.account.is_none() && user.tokens.as_slice().is_empty()
 }
 
-// Whether both are so, and are in one channel: entries and groups do not tell them apart.
+// Whether both are so, and are in one channel: entries and groups do not distinguish them.
 fn are_alike(user: &User, other: &User) -> bool
     ensures { result ≡ are_alike user.now other.now }
 {
@@ -37,7 +37,7 @@ fn is_marked(marks: &[bool], slot: usize) -> bool
     }
 }
 
-/// Those in renewed slots, or all, are heard again in these channels.
+// Those in renewed slots, or all, are heard again in these channels.
 #[derive(Drop)]
 pub(crate) struct Hearing<'a> {
     pub(crate) channels: &'a Channels,
@@ -100,8 +100,8 @@ impl<'a> Hearing<'a> {
         self.hears(&users[place]) && self.speaks_at(users, speakers, place)
     }
 
-    /// The slots of those that are heard and may speak where they are. Of sessions that are alike the first
-    /// alone is asked for by a walk.
+    // The slots of those that are heard and may speak where they are. Of sessions that are alike the first
+    // alone is asked for by a walk.
     pub(crate) fn speakers(&self, users: &[User]) -> [bool; SLOTS]
         requires { SlotsRise SLOTS 0 users.now }
         ensures { (slot : ℕ) → slice_index_or result slot false ≡ list_any (λ user. (user.slot.0 == slot)
@@ -116,7 +116,7 @@ impl<'a> Hearing<'a> {
     }
 }
 
-/// Those that are heard may speak where they are if their slots are among these.
+// Those that are heard may speak where they are if their slots are among these.
 #[derive(Drop)]
 pub(crate) struct Heard<'a> {
     pub(crate) hearing: &'a Hearing<'a>,

@@ -6,7 +6,7 @@ ghost use Rattle.mum_state.specs.Kinds.{changes_channels, changes_paths, changes
 
 use crate::edit::Edit;
 
-/// Whether it is an edit of channels or of their policies.
+// Whether it is an edit of channels or of their policies.
 pub(crate) fn changes_channels(edit: &Edit) -> bool
     ensures { result ≡ changes_channels edit.now }
 {
@@ -19,7 +19,7 @@ pub(crate) fn changes_channels(edit: &Edit) -> bool
     }
 }
 
-/// Whether it may be that a session joins, enters another channel, or has its tokens set.
+// Whether it may be that a session joins, enters another channel, or has its tokens set.
 pub(crate) fn may_renew(edit: &Edit) -> bool
     ensures { result ≡ may_renew edit.now }
 {
@@ -33,7 +33,7 @@ pub(crate) fn may_renew(edit: &Edit) -> bool
     }
 }
 
-/// Whether it is a configuration's, and no session's.
+// Whether it is a configuration's, and no session's.
 pub(crate) fn is_of_configuration(edit: &Edit) -> bool
     ensures { result ≡ is_of_configuration edit.now }
 {
@@ -48,7 +48,7 @@ pub(crate) fn is_of_configuration(edit: &Edit) -> bool
     }
 }
 
-/// Whether it sets a policy.
+// Whether it sets a policy.
 pub(crate) fn sets_policy(edit: &Edit) -> bool
     ensures { result ≡ sets_policy edit.now }
 {
@@ -58,7 +58,7 @@ pub(crate) fn sets_policy(edit: &Edit) -> bool
     }
 }
 
-/// Whether it makes, moves or removes channels, or sets a policy.
+// Whether it makes, moves or removes channels, or sets a policy.
 pub(crate) fn changes_paths(edit: &Edit) -> bool
     ensures { result ≡ changes_paths edit.now }
 {
@@ -74,7 +74,7 @@ pub(crate) fn changes_paths(edit: &Edit) -> bool
     }
 }
 
-/// Whether it changes what a route reads.
+// Whether it changes what a route reads.
 pub(crate) fn changes_routes(edit: &Edit) -> bool
     ensures { result ≡ changes_routes edit.now }
 {

@@ -7,7 +7,7 @@ use mum_base::ChannelId;
 use mum_tree::Tree;
 use mum_users::{ChannelSet, Placement, Placements, User};
 
-/// The channels that are not in a tree.
+// The channels that are not in a tree.
 #[derive(Drop)]
 pub(crate) struct Gone<'a> {
     pub(crate) tree: &'a Tree,
@@ -24,7 +24,7 @@ impl<'a> ChannelSet for Gone<'a> {
     }
 }
 
-/// Who is in a channel or below it is moved to another.
+// Who is in a channel or below it is moved to another.
 #[derive(Drop)]
 pub(crate) struct MovedUp<'a> {
     pub(crate) tree: &'a Tree,
@@ -54,7 +54,7 @@ impl<'a> Placements for MovedUp<'a> {
     }
 }
 
-/// The channel above a channel; the channel itself where it is not there.
+// The channel above a channel; the channel itself where it is not there.
 pub(crate) fn parent_of(tree: &Tree, id: ChannelId) -> ChannelId
     ensures { result ≡ parent_of tree.now id }
 {

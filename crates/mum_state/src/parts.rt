@@ -17,8 +17,8 @@ use std::alloc::Global;
 use std::marker::Model;
 use std::sync::ledger::Ledger;
 
-/// The parts of a state. Each keeps what its own type promises; what a state promises of all of them
-/// together may not hold in the midst of an edit.
+// The parts of a state. Each keeps what its own type promises; what a state promises of all of them
+// together may not hold in the midst of an edit.
 #[derive(Drop)]
 pub(crate) struct Parts {
     pub(crate) alloc: Global,
@@ -49,7 +49,7 @@ impl Model for Parts {
 }
 
 impl Parts {
-    /// Those of a state with the root alone and no session.
+    // Those of a state with the root alone and no session.
     pub(crate) fn empty(alloc: Global) -> Result<Parts, OutOfMemory>
         ensures empty { IfOk result (λ parts. parts ≡ empty_state) }
         ensures proper { IfOk result IsProper }
@@ -73,7 +73,7 @@ impl Parts {
         })
     }
 
-    /// Equal parts.
+    // Equal parts.
     pub(crate) fn copy(&self, alloc: Global) -> Result<Parts, OutOfMemory>
         ensures { IfOk result (λ parts. parts ≡ self.now) }
     {
@@ -89,8 +89,8 @@ impl Parts {
         })
     }
 
-    /// What a session may do in a channel; `None` where one of the two is not there. A step is counted
-    /// for each entry that is read.
+    // What a session may do in a channel; `None` where one of the two is not there. A step is counted
+    // for each entry that is read.
     pub(crate) fn permissions_of<L: Ledger>(
         &self,
         session: SessionId,

@@ -5,7 +5,7 @@ ghost use Rattle.mum_state.specs.Renewed.{is_renewed_slot};
 
 use mum_base::{SLOTS, Slot};
 
-/// The slots of the sessions that join, that enter another channel, or whose tokens are set.
+// The slots of the sessions that join, that enter another channel, or whose tokens are set.
 #[derive(Drop)]
 pub(crate) enum Renewed {
     Nobody,

@@ -163,7 +163,7 @@ impl Parts {
         self.channels.edit(id, change)
     }
 
-    /// Takes away a channel, all below it, and what belongs to them. It takes no memory.
+    // Takes away a channel, all below it, and what belongs to them. It takes no memory.
     pub(crate) fn remove_channels(&mut self, id: ChannelId)
         requires { fault_of_remove self.old.tree id ≡ None }
         ensures { self.new ≡ with_tree self.old (without_subtree self.old.tree id) }
@@ -318,7 +318,7 @@ impl Parts {
         }
     }
 
-    /// Sets what an edit sets. After it ran out of memory all is as it was.
+    // Sets what an edit sets. After it ran out of memory all is as it was.
     pub(crate) fn set(&mut self, edit: &Edit) -> Result<(), OutOfMemory>
         requires { IsTrue (fits self.old edit.now) }
         ensures ok { OnOk result (self.new ≡ set_by self.old edit.now) }

@@ -1,28 +1,10 @@
 -- A step of one role leaves what another has of the core.
-use Rattle.std.proofs.Common.{◌≡◌, ◌∙◌, ℕ, false, true≢false, List, [], ◌++◌, Option, Some, None, refl, sym, ap}
-use Rattle.std.specs.Prelude.{◌==◌, slice_index_or}
-use Rattle.std.proofs.lemmas.Bool.{eq-eqb}
-use Rattle.std.proofs.lemmas.List.{append-nil}
-use Rattle.mum_core.proofs.Changed.{changed_other}
-use Rattle.mum_core.proofs.Notices.{waits}
-use Rattle.mum_core.proofs.RunLaws.{collect_keeps, collect_workers, decided_workers, drain_keeps, drain_workers, frame_keeps, notes_keep, posted_workers, puts_keep, puts_workers, same_opening}
-use Rattle.mum_core.specs.Connection.{told}
-use Rattle.mum_core.specs.Core.{CoreState, at_connection, at_worker, connection_at, worker_at}
-use Rattle.mum_core.specs.Laws.{noticed, offered}
-use Rattle.mum_core.specs.Step.{does, frame_action, frame_version}
-use Rattle.mum_core.specs.Worker.{HeldPacket, WorkerState, idle}
+use Rattle.mum_step_laws.proofs.Common.{◌≡◌, ◌∙◌, ℕ, false, true≢false, List, [], ◌++◌, Option, Some, None, refl, sym, ap, ◌==◌, slice_index_or, eq-eqb, append-nil, changed_other, waits, collect_keeps, collect_workers, decided_workers, drain_keeps, drain_workers, frame_keeps, notes_keep, posted_workers, puts_keep, puts_workers, same_opening, told, CoreState, at_connection, at_worker, connection_at, worker_at, noticed, offered, does, frame_action, frame_version, HeldPacket, WorkerState, idle, spoken, Notice, Step, Close, Collect, Drain, End, Frame, Look, Offer, Open, Post, Publish, Tell, Action, Voice, packet, OwnersAreApart, WorkersAreApart, is_of_owner}
+use Rattle.mum_record.specs.declared.step.Step.TheVariants.{Edit}
 use Rattle.mum_core.specs.steps.Edit as edit_step
 use Rattle.mum_core.specs.steps.Frame as frame_step
-use Rattle.mum_core.specs.steps.Frame.{spoken}
 use Rattle.mum_core.specs.steps.Offer as offer_step
 use Rattle.mum_core.specs.steps.Tell as tell_step
-use Rattle.mum_notify.specs.declared.notice.Notice.{Notice}
-use Rattle.mum_record.specs.declared.step.Step.{Step}
-use Rattle.mum_record.specs.declared.step.Step.TheVariants.{Close, Collect, Drain, Edit, End, Frame, Look, Offer, Open, Post, Publish, Tell}
-use Rattle.mum_session.specs.declared.action.Action.{Action}
-use Rattle.mum_session.specs.declared.action.Action.TheVariants.{Voice}
-use Rattle.mum_voice.specs.Packet.{packet}
-use Rattle.mum_step_laws.specs.Apart.{OwnersAreApart, WorkersAreApart, is_of_owner}
 
 -- ---- the owner
 

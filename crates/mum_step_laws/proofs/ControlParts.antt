@@ -1,45 +1,11 @@
 -- What the control owner changes is what the steps of the core change.
-use Rattle.std.proofs.Common.{◌≡◌, ◌∙◌, ℕ, zero, suc, ◌+◌, ◌-◌, ◌<◌, Bool, true, false, cond, true≢false, List, [], ◌∷◌, ◌++◌, length, map, Option, Some, None, refl, sym, ap, subst, inl, inr, arith, append_assoc, length-append, nat_lt}
-use Rattle.std.specs.Prelude.{drop, is_none, not, slice_get, slice_index_or}
-use Rattle.std.specs.Option.{option_map, option_map_or}
-use Rattle.std.proofs.lemmas.Bool.{and_parts, ltb-true}
-use Rattle.std.proofs.lemmas.List.{append-nil, map-append}
-use Rattle.mum_base.specs.declared.number.SessionId.{SessionId}
-use Rattle.mum_control.specs.Commanded.{Accepts, Decides, Denies, IsDropped, Publishes, current as now, next_revision as next, with_accepted}
-use Rattle.mum_control.specs.Facts.{ControlFacts}
-use Rattle.mum_control.specs.Posting.{answer_of, parcel_of}
-use Rattle.mum_control.specs.declared.posted.Posted.{Posted}
+use Rattle.mum_step_laws.proofs.Common.{◌≡◌, ◌∙◌, ℕ, zero, suc, ◌+◌, ◌-◌, ◌<◌, Bool, true, false, cond, true≢false, List, [], ◌∷◌, ◌++◌, length, map, Option, Some, None, refl, sym, ap, subst, inl, inr, arith, append_assoc, length-append, nat_lt, drop, is_none, not, slice_get, slice_index_or, option_map, option_map_or, and_parts, ltb-true, append-nil, map-append, SessionId, Accepts, Decides, Denies, IsDropped, Publishes, now, next, with_accepted, ControlFacts, answer_of, parcel_of, Posted, changed_same, length-changed, answered, next_command, next_of_frame, session_of, CoreState, at_connection, at_session, connection_at, current, is_opened, posts_at, up, fresh, is_of, lagging, reply, does, illegal, Connection, Reply, Notice, Offers, BoxFacts, PostFacts, Offered, Sent, Full, all_published, appended, NoteFacts, PublisherFacts, ReplyFacts, edits_of, verdict, Asked, Command, StateValue, led_to, Edit, Verdict, Accepted, Lacks, Refused, Rejected, Answer, Ignored, CommandsAreEdits, DecidesAsEdit, FullBoxesLag, HasAsked, NoticesArePosted, OwnsAs, Text, published_with, revision_noted, text_of_notice, text_of_parcel, was_posted}
+use Rattle.mum_step_laws.proofs.WorkerParts.{no_less, passes}
 use Rattle.mum_control.specs.declared.posted.Posted.TheVariants as posted
-use Rattle.mum_core.proofs.Changed.{changed_same, length-changed}
-use Rattle.mum_core.specs.Connection.{answered, next_command, next_of_frame, session_of}
-use Rattle.mum_core.specs.Core.{CoreState, at_connection, at_session, connection_at, current, is_opened, posts_at, up}
-use Rattle.mum_core.specs.Connection.{fresh, is_of, lagging}
-use Rattle.mum_core.specs.Reply.{reply}
-use Rattle.mum_core.specs.Step.{does, illegal}
-use Rattle.mum_core.specs.declared.connection.Connection.{Connection}
-use Rattle.mum_core.specs.declared.connection.Reply.{Reply}
 use Rattle.mum_core.specs.steps.Edit as edit_step
 use Rattle.mum_core.specs.steps.Post as post_step
 use Rattle.mum_core.specs.steps.Tell as tell_step
-use Rattle.mum_notify.specs.declared.notice.Notice.{Notice}
-use Rattle.mum_outbox.specs.Calls.{Offers}
-use Rattle.mum_outbox.specs.Facts.{PassFacts as BoxFacts}
-use Rattle.mum_outbox.specs.declared.parcel.PostParcel.{PostParcel}
-use Rattle.mum_outbox.specs.declared.queue.Offered.{Offered}
-use Rattle.mum_outbox.specs.declared.queue.Offered.TheVariants.{Sent, Full}
-use Rattle.mum_published.specs.Calls.{all_published, appended}
-use Rattle.mum_published.specs.Facts.{NoteFacts, PublisherFacts, ReplyFacts}
 use Rattle.mum_record.specs.declared.step.Step.TheVariants as steps
-use Rattle.mum_session.specs.Verdict.{edits_of, verdict}
-use Rattle.mum_session.specs.declared.command.Asked.{Asked}
-use Rattle.mum_session.specs.declared.command.Command.{Command}
-use Rattle.mum_state.specs.State.{StateValue}
-use Rattle.mum_state.specs.After.{led_to}
-use Rattle.mum_state.specs.declared.edit.Edit.{Edit}
-use Rattle.mum_state.specs.declared.verdict.Verdict.{Verdict}
-use Rattle.mum_state.specs.declared.verdict.Verdict.TheVariants.{Accepted, Lacks, Refused, Rejected, Answer, Ignored}
-use Rattle.mum_step_laws.specs.ControlSteps.{CommandsAreEdits, DecidesAsEdit, FullBoxesLag, HasAsked, NoticesArePosted, OwnsAs, published_with, revision_noted, was_posted}
-use Rattle.mum_step_laws.proofs.WorkerParts.{no_less, passes}
 
 -- ---- a connection of the core
 
@@ -112,7 +78,7 @@ module _ (old : ControlFacts) (command : Command) (core : CoreState) (owns : Own
       ≡ answered (next_of_frame (connection_at core c)) (edit_step.reply_to core c decided) (connection_at core c)
   kept_is decided = changed_connection core c (λ connection. answered (next_of_frame connection) (edit_step.reply_to core c decided) connection) asked.opened
 
-  -- the reply waits to be told, where a frame asked for the command
+  -- the reply waits to be sent, where a frame asked for the command
   waits_is : (decided : Verdict) → next_of_frame (connection_at core c) ≡ Some command.what
       → (connection_at (edited core c decided) c).decided ≡ Some (edit_step.reply_to core c decided)
   waits_is decided by_frame =
@@ -265,16 +231,17 @@ commands old new command reply_given (inr decides) core owns asked = inr (edits_
 
 -- ---- notices
 
-put_again : (sent : Bool) (notice : Notice) (notices : List Notice) (before : List PostParcel) → before ≡ map parcel_of notices
-    → cond sent (before ++ parcel_of notice ∷ []) before ≡ map parcel_of (post_step.put sent notice notices)
-put_again true notice notices before is =
-    ap (λ (xs : List PostParcel). xs ++ parcel_of notice ∷ []) is ∙ sym (map-append parcel_of notices (notice ∷ []))
-put_again false notice notices before is = is
+put_again : (sent : Bool) (edits : List Edit) (notice : Notice) (notices : List Notice) (before : List PostFacts) → map text_of_parcel before ≡ map text_of_notice notices
+    → map text_of_parcel (cond sent (before ++ parcel_of edits notice ∷ []) before) ≡ map text_of_notice (post_step.put sent notice notices)
+put_again true edits notice notices before is =
+    map-append text_of_parcel before (parcel_of edits notice ∷ [])
+    ∙ (ap (λ (xs : List Text). xs ++ text_of_notice notice ∷ []) is ∙ sym (map-append text_of_notice notices (notice ∷ [])))
+put_again false edits notice notices before is = is
 
-posted_is : (capacity : ℕ) (to : SessionId) (before later : BoxFacts PostParcel) (item : PostParcel) (offered : Offered PostParcel) (answer : Posted) → Offers capacity before item offered later
+posted_is : (capacity : ℕ) (to : SessionId) (before later : BoxFacts PostFacts) (item : PostFacts) (offered : Offered PostFacts) (answer : Posted) → Offers capacity before item offered later
     → answer ≡ answer_of to offered → later.offered ≡ cond (was_posted answer) (before.offered ++ item ∷ []) before.offered
-posted_is capacity to before later item Sent answer offers is = rw is (ap (λ (p : BoxFacts PostParcel). p.offered) offers)
-posted_is capacity to before later item (Full back) answer offers is = rw is (ap (λ (p : BoxFacts PostParcel). p.offered) offers.1)
+posted_is capacity to before later item Sent answer offers is = rw is (ap (λ (p : BoxFacts PostFacts). p.offered) offers)
+posted_is capacity to before later item (Full back) answer offers is = rw is (ap (λ (p : BoxFacts PostFacts). p.offered) offers.1)
 
 -- what the core makes of a notice, but for its posts and its connections
 abbrev Keeps : CoreState → CoreState → Type 0
@@ -318,8 +285,9 @@ posts old new notice rest answer done pending core owns =
         before = done.offers.before;
         later = done.offers.later;
         box = done.offers.box;
-        offered = λ notices is. posted_is _ notice.to done.offers.before done.offers.later (parcel_of notice) done.offered answer done.offers.offers done.answer
-            ∙ put_again (was_posted answer) notice notices done.offers.before.offered is;
+        offered = λ notices is.
+            ap (map text_of_parcel) (posted_is _ notice.to done.offers.before done.offers.later (parcel_of old.publisher.published notice) done.offered answer done.offers.offers done.answer)
+            ∙ put_again (was_posted answer) old.publisher.published notice notices done.offers.before.offered is;
         others = done.offers.others;
       },
       λ inside room.
@@ -350,7 +318,7 @@ lagged_where : (room : Bool) (c : ℕ) (one other : CoreState) → room ≡ fals
 lagged_where true c one other none lags = absurd (true≢false none)
 lagged_where false c one other none lags = lags
 
-unposted : (to : SessionId) (offered : Offered PostParcel) (answer : Posted) → answer ≡ answer_of to offered → was_posted answer ≡ false → answer ≡ posted.Lagged to
+unposted : (to : SessionId) (offered : Offered PostFacts) (answer : Posted) → answer ≡ answer_of to offered → was_posted answer ≡ false → answer ≡ posted.Lagged to
 unposted to Sent answer is none = absurd (true≢false (sym (ap was_posted is) ∙ none))
 unposted to (Full back) answer is none = is
 

@@ -1,41 +1,8 @@
 -- The last notice of a session is of an edit that kicked it.
-use Rattle.std.proofs.Common.{◌≡◌, ◌∙◌, ℕ, ◌-◌, ◌<◌, Bool, true, false, cond, true≢false, List, [], ◌∷◌, ◌++◌, Option, Some, None, refl, sym, ap, subst}
-use Rattle.std.specs.Prelude.{◌==◌, ◌||◌, filter, slice_get}
-use Rattle.std.specs.List.{AllByRecursion, list_any}
-use Rattle.std.specs.Option.{option_map, option_map_or, option_or}
-use Rattle.std.proofs.lemmas.Bool.{and_parts, eq-eqb, eqb-true, or_left, or_right}
-use Rattle.std.proofs.lemmas.List.Elements.{recursion_from_All}
-use Rattle.mum_base.specs.declared.number.SessionId.{SessionId}
-use Rattle.mum_base.specs.declared.number.TheConstants.{SLOTS}
-use Rattle.mum_base.specs.declared.number.Cause.TheVariants.{Kicked}
-use Rattle.mum_control.specs.Posting.{parcel_of}
-use Rattle.mum_core.proofs.Notices.{notices_are_posted, posts_are_collected}
-use Rattle.mum_core.proofs.RunLaws.{accepted_grows}
-use Rattle.mum_core.proofs.Places.{placed}
-use Rattle.mum_core.proofs.Settled.{AreSettled, seat_on, seat_placed, settled_start, settled_step}
-use Rattle.mum_core.specs.Connection.{seat_given, session_of}
-use Rattle.mum_core.specs.Core.{CoreState, connection_at, current, posts_at, start}
-use Rattle.mum_core.specs.Laws.{collected, gathered, noticed, offered, posted_in, ran}
-use Rattle.mum_core.specs.Step.{does}
-use Rattle.mum_core.specs.declared.connection.Connection.{Connection}
-use Rattle.mum_core.specs.declared.connection.Seat.{Seat}
-use Rattle.mum_core.specs.steps.Close.{has_cause, kicks, was_kicked}
+use Rattle.mum_step_laws.proofs.Common.{◌≡◌, ◌∙◌, ℕ, ◌-◌, ◌<◌, Bool, true, false, cond, true≢false, List, [], ◌∷◌, ◌++◌, Option, Some, None, refl, sym, ap, subst, ◌==◌, ◌&&◌, ◌||◌, filter, slice_get, AllByRecursion, list_any, option_map, option_map_or, option_or, and_parts, eq-eqb, eqb-true, or_left, or_right, recursion_from_All, SessionId, SLOTS, Kicked, Text, text_of_notice, text_of_parcel, notices_are_posted, posts_are_collected, accepted_grows, placed, AreSettled, seat_on, seat_placed, settled_start, settled_step, seat_given, session_of, CoreState, connection_at, current, posts_at, start, collected, gathered, noticed, offered, posted_in, ran, does, Connection, Seat, has_cause, kicks, was_kicked, last_only_for_kicked_lem, kicked, Notice, PostFacts, is_last, Version, Step, applied, StateValue, Edit, Kick, Verdict, Accepted, Lacks, Refused, Rejected, Answer, Ignored}
 use Rattle.mum_core.specs.steps.Edit as edit_step
 use Rattle.mum_core.specs.steps.Post as post_step
-use Rattle.mum_notify.proofs.Told.{last_only_for_kicked_lem}
-use Rattle.mum_notify.specs.Laws.{kicked}
-use Rattle.mum_notify.specs.declared.notice.Notice.{Notice}
-use Rattle.mum_outbox.specs.declared.parcel.PostParcel.{PostParcel}
-use Rattle.mum_port.specs.Did.{is_last}
-use Rattle.mum_record.specs.declared.head.Version.{Version}
-use Rattle.mum_record.specs.declared.step.Step.{Step}
 use Rattle.mum_record.specs.declared.step.Step.TheVariants as steps
-use Rattle.mum_state.specs.Applied.{applied}
-use Rattle.mum_state.specs.State.{StateValue}
-use Rattle.mum_state.specs.declared.edit.Edit.{Edit}
-use Rattle.mum_state.specs.declared.edit.Edit.TheVariants.{Kick}
-use Rattle.mum_state.specs.declared.verdict.Verdict.{Verdict}
-use Rattle.mum_state.specs.declared.verdict.Verdict.TheVariants.{Accepted, Lacks, Refused, Rejected, Answer, Ignored}
 
 -- ---- lists
 
@@ -164,17 +131,19 @@ seated_session core c seat settled is =
 -- ---- the cause
 
 -- the first that waits, as the parcel that it is in a box
-first_last : (edits : List Edit) (session : SessionId) (posts : List Notice) (parcel : Option PostParcel) → AllByRecursion (IsOfKick edits) posts
-    → option_map parcel_of (slice_get posts 0) ≡ parcel → is_last (Some session) parcel ≡ true → list_any (kicks session) edits ≡ true
-first_last edits session [] parcel all is last = absurd (true≢false (sym (ap (is_last (Some session)) is ∙ last)))
-first_last edits session (notice ∷ posts) parcel all is last =
-    let both = and_parts (notice.to.0 == session.0) notice.last (ap (is_last (Some session)) is ∙ last) in
+first_last : (edits : List Edit) (session : SessionId) (posts : List Notice) (parcel : Option PostFacts) → AllByRecursion (IsOfKick edits) posts
+    → option_map text_of_notice (slice_get posts 0) ≡ option_map text_of_parcel parcel → is_last (Some session) parcel ≡ true → list_any (kicks session) edits ≡ true
+first_last edits session posts None all is last = absurd (true≢false (sym last))
+first_last edits session [] (Some parcel) all is last = absurd (cc is)
+first_last edits session (notice ∷ posts) (Some parcel) all is last =
+    let one : text_of_notice notice ≡ text_of_parcel parcel = cc is in
+    let both = and_parts (notice.to.0 == session.0) notice.last (ap (λ (t : Text). (t.to.0 == session.0) && t.last) one ∙ last) in
     let same : notice.to ≡ session = ap (λ (n : ℕ). record { 0 = n }) (eqb-true notice.to.0 session.0 both.0) in
     subst (λ (s : SessionId). list_any (kicks s) edits ≡ true) same (all.0 both.1)
 
-pub kicked_cause : (version : Version) (opening : StateValue) (workers slot : ℕ) (run more : List Step) (c : ℕ) (seat : Seat) (parcel : Option PostParcel)
+pub kicked_cause : (version : Version) (opening : StateValue) (workers slot : ℕ) (run more : List Step) (c : ℕ) (seat : Seat) (parcel : Option PostFacts)
     → (connection_at (ran (start version opening workers) run) c).seat ≡ Some seat → seat.slot.0 ≡ slot → slot < SLOTS
-    → option_map parcel_of (slice_get (posts_at (ran (start version opening workers) run) slot) 0) ≡ parcel → is_last (Some seat.session) parcel ≡ true
+    → option_map text_of_notice (slice_get (posts_at (ran (start version opening workers) run) slot) 0) ≡ option_map text_of_parcel parcel → is_last (Some seat.session) parcel ≡ true
     → has_cause (ran (ran (start version opening workers) run) more) c Kicked ≡ true
 kicked_cause version opening workers slot run more c seat parcel is same within oldest last =
     let core = ran (start version opening workers) run in

@@ -1,3 +1,4 @@
+mod Common
 pub mod ApartParts
 pub mod ControlParts
 pub mod KickParts

@@ -1,9 +1,5 @@
 -- What an owner publishes is what the step Publish makes of the core.
-use Rattle.std.proofs.Common.{◌∙◌, length, refl, sym, ap}
-use Rattle.std.proofs.lemmas.List.{append-nil}
-use Rattle.mum_owner.specs.Facts.{OwnerFacts}
-use Rattle.mum_published.specs.Calls.{appended}
-use Rattle.mum_step_laws.specs.OwnerSteps.{PublishesArePublishes}
+use Rattle.mum_step_laws.proofs.Common.{◌∙◌, length, refl, sym, ap, append-nil, OwnerFacts, appended, PublishesArePublishes}
 
 module _ {D L : Type 0} where
   pub publishes : PublishesArePublishes D L

@@ -1,47 +1,10 @@
 -- What a turn of an owner makes of its control owner is what a run of steps makes of the core.
-use Rattle.std.proofs.Common.{◌≡◌, ◌∙◌, ℕ, Bool, true, false, cond, List, [], ◌∷◌, ◌++◌, length, Option, Some, None, refl, sym, ap, subst, inl, inr}
-use Rattle.std.specs.Prelude.{◌&&◌, is_none, is_some, MatchBool, MatchOption}
-use Rattle.std.specs.List.{AllByRecursion, flat_map}
-use Rattle.std.proofs.lemmas.Grind.{fold-append}
-use Rattle.std.proofs.lemmas.List.{append-nil}
-use Rattle.mum_base.specs.declared.number.SessionId.{SessionId}
-use Rattle.mum_base.specs.declared.number.Slot.{Slot}
-use Rattle.mum_control.specs.Commanded.{Commanded, current}
-use Rattle.mum_control.specs.Facts.{ControlFacts}
-use Rattle.mum_control.specs.Kept.{slot_of}
-use Rattle.mum_control.specs.Posting.{EmptiesPost, PostsNext, answer_of}
-use Rattle.mum_control.specs.declared.posted.Posted.{Posted}
-use Rattle.mum_core.specs.Core.{CoreState}
-use Rattle.mum_core.specs.Laws.{IsRun, ran}
-use Rattle.mum_core.specs.Step.{does}
-use Rattle.mum_io.specs.Door.{DoorFacts}
-use Rattle.mum_io.specs.Link.{LinkFacts}
-use Rattle.mum_notify.specs.declared.notice.Notice.{Notice}
-use Rattle.mum_outbox.specs.declared.parcel.PostParcel.{PostParcel}
-use Rattle.mum_outbox.specs.declared.queue.Offered.{Offered}
-use Rattle.mum_outbox.specs.declared.queue.Offered.TheVariants.{Sent, Full}
-use Rattle.mum_owner.specs.Banning.{Answers, IsGivenOrRefused, ListComesTo, SettledBy, SettlesList, TestedBy, ban_reply, banned_in, book_after, is_banned, list_reply, with_warden}
-use Rattle.mum_owner.specs.Facts.{OwnerFacts}
-use Rattle.mum_owner.specs.Given.{IsGiven, roll_of}
-use Rattle.mum_owner.specs.Guests.{owned, session_of}
-use Rattle.mum_owner.specs.Serving.{EmptiesFor, LeaveIsGiven, Next, Receives, ReceivesBy, ReceivesItem, Rests, Serves, ServesDesk, leave_of, must_wait, next, with_pass}
-use Rattle.mum_owner.specs.Serving.Next.{Again, Goes, Rest, Take}
-use Rattle.mum_owner.specs.Turned.{ArchivesBy, Asks, PostsOne, Publishes, has_posted, is_not_to_ask, is_over, is_through, lag_at, pressing, with_lag}
-use Rattle.mum_owner.specs.Written.{is_leave, is_login}
-use Rattle.mum_owner.specs.declared.kept.Lag.{Lag}
-use Rattle.mum_port.specs.declared.item.DeskItem.{DeskItem}
+use Rattle.mum_step_laws.proofs.Common.{◌≡◌, ◌∙◌, ℕ, Bool, true, false, cond, List, [], ◌∷◌, ◌++◌, length, Option, Some, None, refl, sym, ap, subst, inl, inr, ◌&&◌, is_none, is_some, MatchBool, MatchOption, AllByRecursion, flat_map, fold-append, append-nil, SessionId, Slot, Commanded, ControlFacts, slot_of, EmptiesPost, PostsNext, answer_of, due_behind, due_notices, Posted, CoreState, IsRun, ran, does, DoorFacts, LinkFacts, Notice, PostFacts, Offered, Sent, Full, Answers, IsGivenOrRefused, ListComesTo, SettledBy, SettlesList, TestedBy, ban_reply, banned_in, book_after, is_banned, list_reply, with_warden, OwnerFacts, IsGiven, roll_of, owned, EmptiesFor, LeaveIsGiven, Next, Receives, ReceivesBy, ReceivesItem, Rests, Serves, ServesDesk, leave_of, must_wait, with_pass, Again, Goes, Rest, ArchivesBy, Asks, PostsOne, has_posted, is_not_to_ask, is_over, is_through, lag_at, pressing, with_lag, is_leave, is_login, Lag, DeskItem, NoteFacts, ReplyFacts, Step, Command, Edit, Book, sent, WardenFacts, verdict_in, HasAsked, OwnsAs, published_with, Decision, OwnersAreOwners, decided_as, decided_by, decided_command, decided_given, decided_in, decided_item, decided_leave, decided_owned, decided_receiving, decided_settling, decided_tested, decided_waiting, publish_noted, step_where, steps_decided}
+use Rattle.mum_control.specs.Commanded.{current}
+use Rattle.mum_owner.specs.{Guests.session_of, Serving.next, Serving.Next.Take, Turned.Publishes}
+use Rattle.mum_step_laws.proofs.{ControlParts.dropped_owns, ControlParts.edits_as, ControlParts.posts, OwnerParts.publishes}
 use Rattle.mum_port.specs.declared.item.DeskItem.TheVariants as items
-use Rattle.mum_published.specs.Facts.{NoteFacts, ReplyFacts}
-use Rattle.mum_record.specs.declared.step.Step.{Step}
 use Rattle.mum_record.specs.declared.step.Step.TheVariants as steps
-use Rattle.mum_session.specs.declared.command.Command.{Command}
-use Rattle.mum_bans.specs.Book.{Book}
-use Rattle.mum_warden.specs.Answer.{sent}
-use Rattle.mum_warden.specs.Warden.{WardenFacts, verdict_in}
-use Rattle.mum_step_laws.proofs.ControlParts.{dropped_owns, edits_as, posts}
-use Rattle.mum_step_laws.proofs.OwnerParts.{publishes}
-use Rattle.mum_step_laws.specs.ControlSteps.{HasAsked, OwnsAs, published_with}
-use Rattle.mum_step_laws.specs.OwnerTurns.{Decision, OwnersAreOwners, decided_as, decided_by, decided_command, decided_given, decided_in, decided_item, decided_leave, decided_owned, decided_receiving, decided_settling, decided_tested, decided_waiting, publish_noted, step_where, steps_decided}
 
 -- ---- runs
 
@@ -112,17 +75,23 @@ emptied_kept old (Some session) after empties = emptied_slot old (slot_of (curre
 
 -- ---- a notice
 
-answered : (to : SessionId) (offered : Offered PostParcel) (answer : Posted) → answer ≡ answer_of to offered → has_posted answer ≡ true
+answered : (to : SessionId) (offered : Offered PostFacts) (answer : Posted) → answer ≡ answer_of to offered → has_posted answer ≡ true
 answered to Sent answer is = ap has_posted is
 answered to (Full back) answer is = ap has_posted is
 
-posts_next : (old : ControlFacts) (pending : List Notice) (answer : Posted) (after : ControlFacts) → old.pending ≡ pending → PostsNext old pending answer after
+-- a notice that is to be posted is the first that is pending
+due_first : (unpublished : List Edit) (pending : List Notice) (notice : Notice) (rest : List Notice) → due_behind unpublished pending ≡ notice ∷ rest → pending ≡ notice ∷ rest
+due_first [] pending notice rest is = is
+due_first (edit ∷ unpublished) pending notice rest is = absurd (cc is)
+
+posts_next : (old : ControlFacts) (due : List Notice) (answer : Posted) (after : ControlFacts) → due_notices old ≡ due → PostsNext old due answer after
     → Leads old after [] (step_where (has_posted answer) steps.Post)
 posts_next old [] answer after is done =
     subst (λ (a : Posted). Leads old after [] (step_where (has_posted a) steps.Post)) (sym done.0) (rests old after done.1)
 posts_next old (notice ∷ rest) answer after is done =
     subst (λ (b : Bool). Leads old after [] (step_where b steps.Post)) (sym (answered notice.to done.offered answer done.answer)) (record {
-      leads = λ core owns asked. let step = posts old after notice rest answer done is core owns in ((step.0, tt), step.2);
+      leads = λ core owns asked.
+          let step = posts old after notice rest answer done (due_first old.publisher.pending old.pending notice rest is) core owns in ((step.0, tt), step.2);
     })
 
 -- ---- the desk
@@ -223,7 +192,7 @@ module _ {D L : Type 0} where
       let control : new.control ≡ one.after = ap (λ (o : OwnerFacts D L). o.control) one.others ∙ lag_keeps (lag_at one.answer old.guests.rows) (record old { control = one.after }) in
       subst (λ (k : ControlFacts). Leads old.control k [] (step_where worked steps.Post)) (sym control)
       (subst (λ (b : Bool). Leads old.control one.after [] (step_where b steps.Post)) (sym one.so)
-      (posts_next old.control old.control.pending one.answer one.after refl one.posts))
+      (posts_next old.control (due_notices old.control) one.answer one.after refl one.posts))
 
   posted_moves : (b : Bool) (old : OwnerFacts D L) (worked : Bool) (new : OwnerFacts D L) → MatchBool b (Rests old worked new) (PostsOne old worked new) → Leads old.control new.control [] (step_where worked steps.Post)
   posted_moves true old worked new (so, same) =

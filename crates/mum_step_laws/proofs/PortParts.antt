@@ -1,97 +1,27 @@
 -- What a port does is what the steps of its connection do.
-use Rattle.std.proofs.Common.{◌≡◌, ◌∙◌, ℕ, ◌+◌, ◌-◌, ◌<◌, Bool, true, false, cond, true≢false, List, [], ◌∷◌, ◌++◌, length, map, take, Option, Some, None, Result, Ok, Err, refl, sym, ap, subst, inr, arith, length-append, nat_lt}
-use Rattle.std.specs.Prelude.{◌==◌, ◌&&◌, ◌||◌, filter, is_none, is_some, not, nat_le, option_and_then, option_to_list, slice_get, slice_index_or}
-use Rattle.std.specs.List.{flat_map}
-use Rattle.std.specs.Option.{option_map, option_map_or, option_or}
-use Rattle.std.proofs.lemmas.Bool.{and_parts, eq-eqb, eqb-true, false≢true, lt-ltb, not-true}
-use Rattle.std.proofs.lemmas.List.{append-nil}
-use Rattle.mum_base.specs.declared.number.Cause.{Cause}
-use Rattle.mum_base.specs.declared.number.Cause.TheVariants as causes
-use Rattle.mum_base.specs.declared.number.SessionId.{SessionId}
-use Rattle.mum_base.specs.declared.outcome.Reason.TheVariants.{Gone}
-use Rattle.mum_base.specs.declared.reply.ReplyEnd.{ReplyEnd}
-use Rattle.mum_base.specs.declared.reply.ReplyEnd.TheVariants as ends
-use Rattle.mum_control.specs.Posting.{parcel_of}
-use Rattle.mum_core.proofs.Changed.{changed_same}
-use Rattle.mum_core.specs.Case.{first_that_stands}
-use Rattle.mum_core.specs.Connection.{asking, closed_at, fresh as fresh_connection, is_rejected as marks_rejection, is_untold, leave_waiting, leaving, seat_given, told, wire_in, wire_of}
-use Rattle.mum_core.specs.Core.{CoreState, connection_at, is_opened, outbox_at, posts_at, up, worker_at}
-use Rattle.mum_core.specs.Delivery.{Delivery, Queues, does_from, is_for, takes, with_stale}
-use Rattle.mum_core.specs.Laws.{own_front, own_notice}
-use Rattle.mum_core.specs.Machine.{machine_of, stage_of}
-use Rattle.mum_core.specs.Reply.{reply, seat_in}
-use Rattle.mum_core.specs.Step.{does, frame_action, frame_version, illegal}
-use Rattle.mum_core.specs.Worker.{HeldPacket, WorkerState, idle, in_hand}
-use Rattle.mum_core.specs.declared.connection.Connection.{Connection}
-use Rattle.mum_core.specs.declared.connection.Leave.{Leave}
-use Rattle.mum_core.specs.declared.connection.Reply.{Reply}
-use Rattle.mum_core.specs.declared.connection.Seat.{Seat}
-use Rattle.mum_core.specs.declared.machine.Totals.{Totals}
-use Rattle.mum_core.specs.declared.outbox.Parcel.{Parcel}
-use Rattle.mum_core.specs.steps.Close as close_step
-use Rattle.mum_core.specs.steps.Collect.{framed, notice_queues}
-use Rattle.mum_core.specs.steps.Drain.{carried, copy_queues}
-use Rattle.mum_core.specs.steps.Frame as frame_step
-use Rattle.mum_core.specs.steps.Frame.{spoken}
-use Rattle.mum_core.specs.steps.Tell as tell_step
-use Rattle.mum_frame.proofs.OneFrame.{kind_of-spelling, payload_of-spelling}
-use Rattle.mum_frame.specs.Frame.{IsFrame, frame_spelling, kind_of, payload_of}
+use Rattle.mum_step_laws.proofs.Common.{◌≡◌, ◌∙◌, ℕ, ◌+◌, ◌-◌, ◌<◌, Bool, true, false, cond, true≢false, List, [], ◌∷◌, ◌++◌, length, map, take, Option, Some, None, Result, Ok, Err, refl, sym, ap, subst, inr, arith, length-append, nat_lt, ◌==◌, ◌&&◌, ◌||◌, filter, is_none, is_some, not, nat_le, option_and_then, option_to_list, slice_get, slice_index_or, flat_map, option_map, option_map_or, option_or, and_parts, eq-eqb, eqb-true, false≢true, lt-ltb, not-true, append-nil, Cause, SessionId, Gone, ReplyEnd, changed_same, first_that_stands, asking, closed_at, fresh_connection, marks_rejection, is_untold, leave_waiting, leaving, seat_given, told, wire_in, wire_of, CoreState, connection_at, is_opened, outbox_at, posts_at, up, worker_at, Queues, does_from, is_for, takes, with_stale, own_front, own_notice, machine_of, stage_of, reply, seat_in, does, frame_action, frame_version, illegal, HeldPacket, WorkerState, idle, in_hand, Connection, Leave, Reply, Seat, Totals, Parcel, framed, notice_queues, carried, copy_queues, spoken, kind_of-spelling, payload_of-spelling, IsFrame, frame_spelling, kind_of, payload_of, VERSION, LinkFacts, decoded, Notice, PostFacts, VoiceFacts, awaits-after_frame, post-leaves, voice-leaves, connection-after_frame, stage-after_frame, worker-after_frame, is_last, post_bytes, stray_posts, stray_voices, voice_bytes, PortFacts, item_of, may_handle, new_port, next_word, waits_with, Acts, Sinks, is_live, CollectsPost, DrainsVoice, sinks, TakesPost, TakesVoice, foreign_count, has_taken, stage_after_post, DeskItem, PassesFacts, UNWRITTEN_LIMIT, Stage, Ending, Live, Opening, version-asks, Decoded, action, after_frame, asks, ignore, kept_version, version_action, version_after, Machine, machine_answered, fresh_with_bans, is_rejected, stage_after, mark, reply_end, Action, Ask, Voice, Echo, Keep, Ignore, Bans, BAN_LIST, alike, sends, Asked, Edit, SetServer, SetLimits, AddAccount, Join, LeaveEdit, Kick, MakeChannel, EditChannel, RemoveChannel, SetUser, SetTokens, SetTarget, SetAcl, Verdict, Accepted, Lacks, Refused, Rejected, Answer, Ignored, Parts, packet, BadVoice, CommonFacts, RoutesPacket, said_by, said_of, ClosesAreCloses, ConnectionsAreOpened, FramesAreFrames, IsKnownAs, IsOpenAs, IsSeated, KickedMayClose, KnowsCause, ListsAreNoSteps, MayNote, NoticesAreCollected, RepliesAreTold, SpeechIsDrained, asked_in, held_of, totals_after, SentText, text_of_notice, text_of_parcel, parcel_of_core}
 use Rattle.mum_frame.specs.declared.frame.Frame.{Frame}
-use Rattle.mum_frame.specs.declared.kind.TheConstants.{VERSION}
-use Rattle.mum_io.specs.Link.{LinkFacts}
+use Rattle.mum_state.specs.declared.edit.Edit.TheVariants.{Text}
+use Rattle.mum_session.specs.Machine.{session_of}
+use Rattle.mum_core.specs.Delivery.{Delivery}
+use Rattle.mum_step_laws.proofs.{ControlParts.changed_connection, KickParts.kicked_cause, WorkerParts.no_less, WorkerParts.passes as passes_on, WorkerParts.there}
+use Rattle.mum_base.specs.declared.number.Cause.TheVariants as causes
+use Rattle.mum_base.specs.declared.reply.ReplyEnd.TheVariants as ends
+use Rattle.mum_core.specs.steps.Close as close_step
+use Rattle.mum_core.specs.steps.Frame as frame_step
+use Rattle.mum_core.specs.steps.Tell as tell_step
 use Rattle.mum_msg_state.specs.Messages as messages
-use Rattle.mum_fields.specs.Table.{decoded}
-use Rattle.mum_notify.specs.declared.notice.Notice.{Notice}
-use Rattle.mum_outbox.specs.declared.parcel.PostParcel.{PostParcel}
-use Rattle.mum_outbox.specs.declared.parcel.VoiceParcel.{VoiceParcel}
-use Rattle.mum_port.proofs.Awaiting.{awaits-after_frame}
-use Rattle.mum_port.proofs.BoxParts.{post-leaves, voice-leaves}
-use Rattle.mum_port.proofs.Machines.{connection-after_frame, stage-after_frame, worker-after_frame}
-use Rattle.mum_port.specs.Did.{is_last, post_bytes, stray_posts, stray_voices, voice_bytes}
-use Rattle.mum_port.specs.Facts.{PortFacts, item_of, may_handle, new_port, next_word, waiting_after as waits_with}
-use Rattle.mum_port.specs.Handling.{Acts, Sinks}
-use Rattle.mum_port.specs.Stage.{is_live}
-use Rattle.mum_port.specs.Steps.{CollectsPost, DrainsVoice, sinks}
-use Rattle.mum_port.specs.Taking.{TakesPost, TakesVoice, foreign_count, has_taken, stage_after_post}
-use Rattle.mum_port.specs.declared.item.DeskItem.{DeskItem}
-use Rattle.mum_port.specs.declared.passes.Passes.{Passes}
-use Rattle.mum_port.specs.declared.port.TheConstants.{UNWRITTEN_LIMIT}
-use Rattle.mum_port.specs.declared.stage.Stage.{Stage}
 use Rattle.mum_port.specs.declared.stage.Parting.TheVariants as partings
-use Rattle.mum_port.specs.declared.stage.Stage.TheVariants.{Ending, Live}
-use Rattle.mum_published.specs.Facts.{Opening}
 use Rattle.mum_record.specs.declared.step.Step.TheVariants as steps
-use Rattle.mum_session.proofs.Frames.{version-asks}
-use Rattle.mum_session.specs.Action.{Decoded, action, after_frame, asks, ignore, kept_version, version_action, version_after}
-use Rattle.mum_session.specs.Machine.{Machine, answered as machine_answered, fresh_with_bans, is_rejected, session_of, stage_after}
-use Rattle.mum_session.specs.Reply.{mark, reply_end}
-use Rattle.mum_session.specs.declared.action.Action.{Action}
-use Rattle.mum_session.specs.declared.action.Action.TheVariants.{Ask, Voice, Echo, Keep, Ignore, Bans}
-use Rattle.mum_session.specs.declared.action.TheConstants.{BAN_LIST}
-use Rattle.mum_session.proofs.Lists.{alike, sends}
-use Rattle.mum_session.specs.declared.command.Asked.{Asked}
 use Rattle.mum_session.specs.declared.session.Stage.TheVariants as stages
-use Rattle.mum_state.specs.declared.edit.Edit.{Edit}
-use Rattle.mum_state.specs.declared.edit.Edit.TheVariants.{SetServer, SetLimits, AddAccount, Join, Leave as LeaveEdit, Kick, MakeChannel, EditChannel, RemoveChannel, SetUser, SetTokens, SetTarget, SetAcl, Text}
-use Rattle.mum_state.specs.declared.verdict.Verdict.{Verdict}
-use Rattle.mum_state.specs.declared.verdict.Verdict.TheVariants.{Accepted, Lacks, Refused, Rejected, Answer, Ignored}
-use Rattle.mum_voice.specs.Packet.{Parts, packet}
-use Rattle.mum_voice.specs.declared.fault.BadVoice.{BadVoice}
-use Rattle.mum_worker.specs.Routing.{CommonFacts, RoutesPacket}
-use Rattle.mum_worker_laws.specs.Lives.{said_by, said_of}
-use Rattle.mum_step_laws.specs.PortSteps.{ClosesAreCloses, ConnectionsAreOpened, FramesAreFrames, IsKnownAs, IsOpenAs, IsSeated, KickedMayClose, KnowsCause, ListsAreNoSteps, MayNote, NoticesAreCollected, RepliesAreTold, SpeechIsDrained, asked_in, held_of, totals_after}
-use Rattle.mum_step_laws.specs.WorkerSteps.{parcel_in}
-use Rattle.mum_step_laws.proofs.ControlParts.{changed_connection}
-use Rattle.mum_step_laws.proofs.KickParts.{kicked_cause}
-use Rattle.mum_step_laws.proofs.WorkerParts.{no_less, passes as passes_on, there}
 
 -- ---- the boxes
 
 -- a port that may look at its boxes, with these passes
-abbrev looking : SessionId → Passes → PortFacts ℕ
+abbrev looking : SessionId → PassesFacts → PortFacts ℕ
 looking session passes = record (new_port 0 0 0) { machine = record (fresh_with_bans 0 0) { stage = stages.LoggedIn session }; passes = Some passes }
 
-voice_counts : (session : SessionId) (passes : Passes) (took : _) (after : Passes) (out : List ℕ) (takes : TakesVoice session passes took after out)
+voice_counts : (session : SessionId) (passes : PassesFacts) (took : _) (after : PassesFacts) (out : List ℕ) (takes : TakesVoice session passes took after out)
     → (out ≡ voice_bytes (Some session) takes.parcel) × (foreign_count took ≡ stray_voices (Some session) takes.parcel)
 voice_counts session passes took after out takes =
     let old = looking session passes in
@@ -99,7 +29,7 @@ voice_counts session passes took after out takes =
     let drains : DrainsVoice [] old took new = inr (record { session = session; allowed = refl; taken = inr takes; left = refl }) in
     let leaves = voice-leaves [] old took new drains in (leaves.out, leaves.count)
 
-post_counts : (session : SessionId) (passes : Passes) (took : _) (after : Passes) (out : List ℕ) (stage_after : Stage) (takes : TakesPost session passes Live took after out stage_after)
+post_counts : (session : SessionId) (passes : PassesFacts) (took : _) (after : PassesFacts) (out : List ℕ) (stage_after : Stage) (takes : TakesPost session passes Live took after out stage_after)
     → (out ≡ post_bytes (Some session) takes.parcel) × (foreign_count took ≡ stray_posts (Some session) takes.parcel)
     × (stage_after ≡ stage_after_post (is_last (Some session) takes.parcel) Live)
 post_counts session passes took after out stage_after takes =
@@ -127,29 +57,35 @@ own_one : {A : Type 0} (frame : A → List ℕ) (b : Bool) (x : A) → flat_map 
 own_one frame true x = append-nil (frame x)
 own_one frame false x = refl
 
-abbrev seat_of : Passes → SessionId → Seat
+abbrev seat_of : PassesFacts → SessionId → Seat
 seat_of passes session = record { session = session; slot = passes.slot }
 
-copies_own : (seat : Seat) (box : List Parcel) (parcel : Option VoiceParcel) → option_map parcel_in (slice_get box 0) ≡ parcel
+copies_own : (seat : Seat) (box : List Parcel) (parcel : Option VoiceFacts) → slice_get box 0 ≡ option_map parcel_of_core parcel
     → (flat_map (λ parcel. (carried parcel).frame) (filter (λ parcel. is_for parcel.to seat) (take 1 box)) ≡ voice_bytes (Some seat.session) parcel)
     × (strays seat (option_map carried (slice_get box 0)) ≡ stray_voices (Some seat.session) parcel)
-copies_own seat [] parcel is = (ap (voice_bytes (Some seat.session)) is, ap (stray_voices (Some seat.session)) is)
-copies_own seat (one ∷ box) parcel is = (
-  own_one (λ parcel. (carried parcel).frame) (is_for one.to seat) one ∙ ap (voice_bytes (Some seat.session)) is,
-  ap (stray_voices (Some seat.session)) is,
-)
+copies_own seat [] None is = (refl, refl)
+copies_own seat [] (Some copy) is = absurd (cc is)
+copies_own seat (one ∷ box) None is = absurd (cc is)
+copies_own seat (one ∷ box) (Some copy) is =
+    let same : one ≡ parcel_of_core copy = cc is in (
+      own_one (λ parcel. (carried parcel).frame) (is_for one.to seat) one ∙ ap (λ (p : Parcel). cond (is_for p.to seat) (carried p).frame []) same,
+      ap (λ (p : Parcel). strays seat (Some (carried p))) same,
+    )
 
-notices_own : (seat : Seat) (posts : List Notice) (parcel : Option PostParcel) → option_map parcel_of (slice_get posts 0) ≡ parcel
+notices_own : (seat : Seat) (posts : List Notice) (parcel : Option PostFacts) → option_map text_of_notice (slice_get posts 0) ≡ option_map text_of_parcel parcel
     → (flat_map (λ notice. (framed notice).frame) (filter (λ notice. is_for notice.to seat) (take 1 posts)) ≡ post_bytes (Some seat.session) parcel)
     × (strays seat (option_map framed (slice_get posts 0)) ≡ stray_posts (Some seat.session) parcel)
-notices_own seat [] parcel is = (ap (post_bytes (Some seat.session)) is, ap (stray_posts (Some seat.session)) is)
-notices_own seat (one ∷ posts) parcel is = (
-  own_one (λ notice. (framed notice).frame) (is_for one.to seat) one ∙ ap (post_bytes (Some seat.session)) is,
-  ap (stray_posts (Some seat.session)) is,
-)
+notices_own seat [] None is = (refl, refl)
+notices_own seat [] (Some parcel) is = absurd (cc is)
+notices_own seat (one ∷ posts) None is = absurd (cc is)
+notices_own seat (one ∷ posts) (Some parcel) is =
+    let same : text_of_notice one ≡ text_of_parcel parcel = cc is in (
+      own_one (λ notice. (framed notice).frame) (is_for one.to seat) one ∙ ap (λ (t : SentText). cond (is_for t.to seat) t.bytes []) same,
+      ap (λ (t : SentText). cond (is_for t.to seat) 0 1) same,
+    )
 
 -- a connection in a seat may take
-may_take : (core : CoreState) (c : ℕ) (passes : Passes) (session : SessionId) → IsSeated core c session passes.slot → illegal core (steps.Drain c) ≡ None
+may_take : (core : CoreState) (c : ℕ) (passes : PassesFacts) (session : SessionId) → IsSeated core c session passes.slot → illegal core (steps.Drain c) ≡ None
 may_take core c passes session seated =
     passes_on (not (is_opened core c)) _ _ (ap not seated.opened)
     (passes_on (is_some (connection_at core c).closed) _ _ (ap is_some seated.not_closed)
@@ -516,7 +452,7 @@ stage_so (ends.Joined session slot) seat = refl
 stage_so ends.Decided seat = refl
 stage_so ends.Rejected seat = refl
 
--- how far a connection has come once it is told
+-- how far a connection has come once it is sent its reply
 stage_told : (connection : Connection) (revision : ℕ) (session : Option SessionId) (verdict : Verdict)
     → connection.decided ≡ Some (reply revision session verdict) → connection.rejected ≡ false
     → stage_of (told connection) ≡ stage_after (reply_end verdict) (stage_of connection)
@@ -530,7 +466,7 @@ stage_told connection revision session verdict decided live =
     ∙ stage_so end connection.seat
     ∙ ap (stage_after end) (sym before)
 
--- the connection once it is told, with a note or without
+-- the connection once it is sent its reply, with a note or without
 told_connection : (core : CoreState) (c : ℕ) (note : Option ℕ) → is_opened core c ≡ true → connection_at (does core (steps.Tell c note)) c ≡ told (connection_at core c)
 told_connection core c None opened = changed_connection core c told opened
 told_connection core c (Some revision) opened = changed_connection core c told opened

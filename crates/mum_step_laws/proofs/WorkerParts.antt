@@ -1,35 +1,7 @@
 -- What a route of a worker makes of it is what the steps of the core make of a worker.
-use Rattle.std.proofs.Common.{◌≡◌, ◌∙◌, ℕ, ◌<◌, ◌≤◌, Bool, true, false, cond, List, [], ◌∷◌, ◌++◌, length, map, take, max, Option, Some, None, refl, sym, ap, subst, arith, nat_lt}
-use Rattle.std.specs.Prelude.{drop, is_none, not, slice_get, slice_index_or}
-use Rattle.std.proofs.lemmas.Bool.{lt-ltb}
-use Rattle.std.proofs.lemmas.Bool.Decides.{nat_tests}
-use Rattle.std.proofs.lemmas.List.{map-append}
-use mathlib.Core.List.{IsPrefix}
-use Rattle.mum_base.specs.declared.number.SessionId.{SessionId}
-use Rattle.mum_core.proofs.Changed.{changed_same}
-use Rattle.mum_core.proofs.RunLaws.{puts_workers}
-use Rattle.mum_core.specs.Core.{CoreState, at_worker, outbox_at, state_at, worker_at}
-use Rattle.mum_core.specs.Step.{does}
-use Rattle.mum_core.specs.Worker.{HeldPacket, WorkerState, idle, least_look}
-use Rattle.mum_core.specs.declared.outbox.Parcel.{Parcel}
-use Rattle.mum_core.specs.declared.worker.Outgoing.{Outgoing}
+use Rattle.mum_step_laws.proofs.Common.{◌≡◌, ◌∙◌, ℕ, ◌<◌, ◌≤◌, Bool, true, false, cond, List, [], ◌∷◌, ◌++◌, length, map, take, max, Option, Some, None, refl, sym, ap, subst, arith, nat_lt, drop, is_none, not, slice_get, slice_index_or, lt-ltb, nat_tests, map-append, IsPrefix, SessionId, changed_same, puts_workers, CoreState, at_worker, outbox_at, state_at, worker_at, does, HeldPacket, WorkerState, idle, least_look, Parcel, Outgoing, Offers, BoxFacts, VoiceFacts, Offered, Sent, Full, PassFacts, Look, Offer, hearers_at, RouterFacts, Delivery, is_sent, parcel_for, led_to, StateValue, Edit, Parts, LooksAreLooks, OffersAreOffers, StandsAt, copies_for, held_packet, parcel_of_core}
 use Rattle.mum_core.specs.steps.Look as look_step
 use Rattle.mum_core.specs.steps.Offer as offer_step
-use Rattle.mum_outbox.specs.Calls.{Offers}
-use Rattle.mum_outbox.specs.Facts.{PassFacts as BoxFacts}
-use Rattle.mum_outbox.specs.declared.parcel.VoiceParcel.{VoiceParcel}
-use Rattle.mum_outbox.specs.declared.queue.Offered.{Offered}
-use Rattle.mum_outbox.specs.declared.queue.Offered.TheVariants.{Sent, Full}
-use Rattle.mum_published.specs.Facts.{PassFacts}
-use Rattle.mum_record.specs.declared.step.Step.TheVariants.{Look, Offer}
-use Rattle.mum_route.specs.Hearers.{hearers_at}
-use Rattle.mum_router.specs.Facts.{RouterFacts}
-use Rattle.mum_router.specs.Offering.{Delivery, is_sent, parcel_for}
-use Rattle.mum_state.specs.After.{led_to}
-use Rattle.mum_state.specs.State.{StateValue}
-use Rattle.mum_state.specs.declared.edit.Edit.{Edit}
-use Rattle.mum_voice.specs.Packet.{Parts}
-use Rattle.mum_step_laws.specs.WorkerSteps.{LooksAreLooks, OffersAreOffers, StandsAt, copies_for, held_packet, parcel_in}
 
 -- ---- cases
 
@@ -76,13 +48,13 @@ copies_found state speaker packet deliveries each =
     ap (map (look_step.outgoing (held_packet speaker packet))) (sym each)
     ∙ map_map (look_step.outgoing (held_packet speaker packet)) (λ (delivery : Delivery). delivery.hearer) deliveries
 
--- a worker that stands where a pass is may look at a list that goes on from what the pass saw and knows
+-- a worker that is where a pass is may look at a list that goes on from what the pass saw and knows
 pub least_below : (pass : PassFacts) (held : Option HeldPacket) (copies : List Outgoing) (worker : WorkerState) (edits : List Edit)
     → StandsAt pass held copies worker → IsPrefix pass.known edits → least_look worker ≤ length edits
 least_below pass held copies worker edits stands known =
     let low = shorter_front pass.known edits known in omega (arith, low, stands.least_is)
 
--- what a look makes of it stands where the pass is then
+-- what a look makes of it is where the pass is then
 pub stands_looked : (pass after : PassFacts) (held : Option HeldPacket) (copies found : List Outgoing) (worker : WorkerState) (edits : List Edit)
     → StandsAt pass held copies worker → IsPrefix pass.known edits → after.seen ≡ edits → after.known ≡ edits
     → StandsAt after None found (look_step.looked (length edits) found worker)
@@ -117,7 +89,7 @@ looks opening old new speaker packet edits deliveries routed at core w within pu
 
 -- ---- an offer
 
--- what an offer makes of it stands where the pass is
+-- what an offer makes of it is where the pass is
 pub stands_left : (pass : PassFacts) (next : Outgoing) (rest : List Outgoing) (worker : WorkerState) → StandsAt pass None (next ∷ rest) worker
     → StandsAt pass None rest (offer_step.left worker)
 stands_left pass next rest worker stands = record {
@@ -127,17 +99,16 @@ stands_left pass next rest worker stands = record {
   copies_are = ap (λ (xs : List Outgoing). drop 1 xs) stands.copies_are;
 }
 
-put_again : (sent : Bool) (next : Outgoing) (parcels : List Parcel) (before : List VoiceParcel) → before ≡ map parcel_in parcels
-    → cond sent (before ++ parcel_in (record { to = next.to; bytes = next.bytes }) ∷ []) before ≡ map parcel_in (offer_step.put sent next parcels)
-put_again true next parcels before is =
-    ap (λ (xs : List VoiceParcel). xs ++ parcel_in (record { to = next.to; bytes = next.bytes }) ∷ []) is
-    ∙ sym (map-append parcel_in parcels (record { to = next.to; bytes = next.bytes } ∷ []))
-put_again false next parcels before is = is
+put_again : (sent : Bool) (next : Outgoing) (item : VoiceFacts) (before : List VoiceFacts) → parcel_of_core item ≡ record { to = next.to; bytes = next.bytes }
+    → map parcel_of_core (cond sent (before ++ item ∷ []) before) ≡ offer_step.put sent next (map parcel_of_core before)
+put_again true next item before is =
+    map-append parcel_of_core before (item ∷ []) ∙ ap (λ (p : Parcel). map parcel_of_core before ++ p ∷ []) is
+put_again false next item before is = refl
 
-offered_is : (capacity : ℕ) (before later : BoxFacts VoiceParcel) (item : VoiceParcel) (answer : Offered VoiceParcel) → Offers capacity before item answer later
+offered_is : (capacity : ℕ) (before later : BoxFacts VoiceFacts) (item : VoiceFacts) (answer : Offered VoiceFacts) → Offers capacity before item answer later
     → later.offered ≡ cond (is_sent answer) (before.offered ++ item ∷ []) before.offered
-offered_is capacity before later item Sent offers = ap (λ (p : BoxFacts VoiceParcel). p.offered) offers
-offered_is capacity before later item (Full back) offers = ap (λ (p : BoxFacts VoiceParcel). p.offered) offers.1
+offered_is capacity before later item Sent offers = ap (λ (p : BoxFacts VoiceFacts). p.offered) offers
+offered_is capacity before later item (Full back) offers = ap (λ (p : BoxFacts VoiceFacts). p.offered) offers.1
 
 -- the outbox of the slot after an offer
 put_where : (room : Bool) (next : Outgoing) (parcels : List Parcel) (one other : CoreState) → outbox_at one next.slot.0 ≡ offer_step.put true next parcels
@@ -152,7 +123,7 @@ put_at core next within =
     (changed_same core.outboxes next.slot.0 (λ parcels. offer_step.put true next parcels) [] within) refl
 
 pub offers : OffersAreOffers
-offers speaker packet outs delivery after delivers pass rest core w within stands =
+offers edits speaker packet outs delivery after delivers pass rest core w within stands =
     let next = look_step.outgoing (held_packet speaker packet) delivery.hearer in
     let taken : CoreState = at_worker w (λ worker. offer_step.left worker) core in
     let first : offer_step.next_copy core w ≡ Some next = ap (λ (xs : List Outgoing). slice_get xs 0) stands.copies_are in
@@ -166,8 +137,8 @@ offers speaker packet outs delivery after delivers pass rest core w within stand
         before = delivers.old;
         later = delivers.new;
         box = delivers.box;
-        offered = λ parcels is. offered_is _ delivers.old delivers.new (parcel_for speaker packet delivery.hearer) delivery.answer delivers.offers
-            ∙ put_again (is_sent delivery.answer) next parcels delivers.old.offered is;
+        offered = ap (map parcel_of_core) (offered_is _ delivers.old delivers.new (parcel_for edits speaker packet delivery.hearer) delivery.answer delivers.offers)
+            ∙ put_again (is_sent delivery.answer) next (parcel_for edits speaker packet delivery.hearer) delivers.old.offered refl;
         others = delivers.others;
       },
       λ inside room.

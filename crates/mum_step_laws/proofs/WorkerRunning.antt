@@ -1,47 +1,11 @@
 -- The steps of one worker are those of the core, and what moments make of a worker.
-use Rattle.std.proofs.Common.{◌≡◌, ◌∙◌, ℕ, ◌<◌, Bool, true, false, cond, List, [], ◌∷◌, ◌++◌, length, take, max, Option, Some, None, refl, sym, ap, subst, arith, nat_lt, append_assoc}
-use Rattle.std.specs.Prelude.{is_none, is_some, not, replicate, slice_get, slice_index_or}
-use Rattle.std.specs.List.{flat_map}
-use Rattle.std.proofs.lemmas.Bool.{ltb-false}
-use Rattle.std.proofs.lemmas.Grind.{flat_map-append, fold-append}
-use Rattle.std.proofs.lemmas.List.{append-nil, length-map}
-use Rattle.std.proofs.lemmas.List.Elements.{filter_map-append}
-use Rattle.std.proofs.lemmas.Bool.Decides.{nat_tests}
-use mathlib.Core.List.{IsPrefix}
-use Rattle.mum_base.specs.declared.number.SessionId.{SessionId}
-use Rattle.mum_core.proofs.Changed.{changed_same}
-use Rattle.mum_core.proofs.RunLaws.{none_stands, puts_workers}
-use Rattle.mum_core.specs.Case.{first_that_stands}
-use Rattle.mum_core.specs.Connection.{is_untold}
-use Rattle.mum_core.specs.Core.{CoreState, at_worker, connection_at, is_opened, state_at, worker_at}
-use Rattle.mum_core.specs.Step.{does, frame_action, frame_version, illegal}
-use Rattle.mum_core.specs.Worker.{HeldPacket, WorkerState, idle, in_hand, least_look}
-use Rattle.mum_core.specs.declared.connection.Reply.{Reply}
-use Rattle.mum_core.specs.declared.worker.Outgoing.{Outgoing}
+use Rattle.mum_step_laws.proofs.Common.{◌≡◌, ◌∙◌, ℕ, ◌<◌, Bool, true, false, cond, List, [], ◌∷◌, ◌++◌, length, take, max, Option, Some, None, refl, sym, ap, subst, arith, nat_lt, append_assoc, is_none, is_some, not, replicate, slice_get, slice_index_or, flat_map, ltb-false, flat_map-append, fold-append, append-nil, length-map, filter_map-append, nat_tests, IsPrefix, SessionId, changed_same, none_stands, puts_workers, first_that_stands, is_untold, CoreState, at_worker, connection_at, is_opened, state_at, worker_at, does, frame_action, frame_version, illegal, HeldPacket, WorkerState, idle, in_hand, least_look, Reply, Outgoing, prefix_trans, Login, NoteFacts, Opening, PassFacts, ReplyFacts, Frame, Look, Offer, Tell, RouterFacts, Delivery, RoutesAt, Routed, Action, Voice, at, led_to, StateValue, Edit, Parts, Admits, LearnsGiven, Packet, Moment, Take, Told, Looked, Took, look_in, looks_in, revision_noted, Allows, AllowsEach, Hold, LookAt, HasNoted, MaySpeak, MayBeTold, Note, NotesAreTold, OfferNext, WorkerStep, WorkerStepsAreSteps, after_step, after_steps, copies_offered, offered_by, packet_in, steps_of, StandsAt, copies_for, held_packet}
+use Rattle.mum_step_laws.specs.WorkerRuns.{offered}
+use Rattle.mum_step_laws.proofs.WorkerParts.{copies_found, least_below, no_less, passes, shorter_front, stands_left, stands_looked, take_front, there}
 use Rattle.mum_core.specs.steps.Frame as frame_step
 use Rattle.mum_core.specs.steps.Look as look_step
 use Rattle.mum_core.specs.steps.Offer as offer_step
 use Rattle.mum_core.specs.steps.Tell as tell_step
-use Rattle.mum_published.proofs.Prefixes.{prefix_trans}
-use Rattle.mum_published.specs.declared.roll.Login.{Login}
-use Rattle.mum_published.specs.Facts.{NoteFacts, Opening, PassFacts, ReplyFacts}
-use Rattle.mum_record.specs.declared.step.Step.TheVariants.{Frame, Look, Offer, Tell}
-use Rattle.mum_router.specs.Facts.{RouterFacts}
-use Rattle.mum_router.specs.Offering.{Delivery}
-use Rattle.mum_router.specs.Routing.{RoutesAt}
-use Rattle.mum_router.specs.declared.offering.Routed.{Routed}
-use Rattle.mum_session.specs.declared.action.Action.{Action}
-use Rattle.mum_session.specs.declared.action.Action.TheVariants.{Voice}
-use Rattle.mum_state.specs.After.{at, led_to}
-use Rattle.mum_state.specs.State.{StateValue}
-use Rattle.mum_state.specs.declared.edit.Edit.{Edit}
-use Rattle.mum_voice.specs.Packet.{Parts}
-use Rattle.mum_worker.specs.Hearing.{Admits, LearnsGiven}
-use Rattle.mum_worker_laws.specs.Laws.{Look as Packet, Moment, Told, Looked, look_in, looks_in}
-use Rattle.mum_step_laws.specs.ControlSteps.{revision_noted}
-use Rattle.mum_step_laws.specs.WorkerRuns.{Allows, AllowsEach, Hold, LookAt, HasNoted, MaySpeak, MayBeTold, Note, NotesAreTold, OfferNext, WorkerStep, WorkerStepsAreSteps, after_step, after_steps, copies_offered, offered, offered_by, packet_in, steps_of}
-use Rattle.mum_step_laws.specs.WorkerSteps.{StandsAt, copies_for, held_packet}
-use Rattle.mum_step_laws.proofs.WorkerParts.{copies_found, least_below, no_less, passes, shorter_front, stands_left, stands_looked, take_front, there}
 
 -- ---- the steps of one worker
 
@@ -178,7 +142,7 @@ longest_by : (test : Bool) (edits others : List Edit) → nat_lt (length edits) 
 longest_by true edits others is = grind (arith, nat_tests)
 longest_by false edits others is = grind (arith, nat_tests)
 
--- a worker that is told stands where the pass is that learns the note
+-- a worker that is notified is where the pass is that learns the note
 pub stands_told : (states : ℕ → StateValue) (note : Option NoteFacts) (old new : RouterFacts) → LearnsGiven note old new
     → (held : Option HeldPacket) (copies : List Outgoing) (worker : WorkerState) → StandsAt old.pass held copies worker
     → StandsAt new.pass held copies (after_step states worker (Note (revision_noted note)))
@@ -263,6 +227,19 @@ module _ (opening : Opening) (published : List Edit) where
       allowed None same = tt
       allowed (Some note) given = shorter_front note.edits published (prefix_trans note.edits new.pass.known published given.0.its front)
 
+  -- what was learnt of parcels
+  took_runs : (takes : List Take) (note : Option NoteFacts) (old new : RouterFacts) → LearnsGiven note old new → IsPrefix new.pass.known published
+      → (worker : WorkerState) → StandsAt old.pass None [] worker → Runs states (length published) worker (steps_of (Took takes note)) [] new.pass
+  took_runs takes note old new learns front worker stands = record {
+    allowed = (allowed note learns, tt);
+    offers = refl;
+    stands = stands_told states note old new learns None [] worker stands;
+  }
+    where
+      allowed : (note : Option NoteFacts) → LearnsGiven note old new → Allows (length published) worker (Note (revision_noted note))
+      allowed None same = tt
+      allowed (Some note) given = shorter_front note.edits published (prefix_trans note.edits new.pass.known published given.0.its front)
+
   -- a packet that was routed
   saw_runs : (connection : ℕ) (old : RouterFacts) (speaker : SessionId) (packet : Parts) (edits : List Edit) (deliveries : List Delivery) (new : RouterFacts) (routed : Routed)
       → RoutesAt opening old speaker packet edits deliveries new routed → IsPrefix new.pass.known published
@@ -337,6 +314,13 @@ module _ (opening : Opening) (published : List Edit) where
   })
     where
       from : (note : Option NoteFacts) → LearnsGiven note old mid → IsPrefix old.pass.known mid.pass.known
+      from None same = ([], append-nil old.pass.known ∙ ap (λ (r : RouterFacts). r.pass.known) (sym same))
+      from (Some note) given = given.0.mine
+
+  pub leads_took : (takes : List Take) (note : Option NoteFacts) (old new : RouterFacts) → LearnsGiven note old new → Leads old new (Took takes note ∷ [])
+  leads_took takes note old new learns = record { knows = from note learns; runs = took_runs takes note old new learns }
+    where
+      from : (note : Option NoteFacts) → LearnsGiven note old new → IsPrefix old.pass.known new.pass.known
       from None same = ([], append-nil old.pass.known ∙ ap (λ (r : RouterFacts). r.pass.known) (sym same))
       from (Some note) given = given.0.mine
 

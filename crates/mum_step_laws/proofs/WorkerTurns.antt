@@ -1,40 +1,15 @@
 -- What holds of each reply that is heard and of each packet that is routed, from one to the next, holds over turns.
-use Rattle.std.proofs.Common.{◌≡◌, ◌∙◌, ℕ, List, [], ◌∷◌, ◌++◌, length, Option, Some, None, refl, sym, ap, subst, inl, inr}
-use Rattle.mum_base.specs.declared.number.SessionId.{SessionId}
-use Rattle.mum_core.specs.Worker.{idle}
-use Rattle.mum_crew.specs.Along.{Along}
-use Rattle.mum_crew.specs.Turns.{TurnsTo}
-use Rattle.mum_crew.specs.declared.role.Turn.{Turn}
-use Rattle.mum_io.specs.Link.{LinkFacts}
-use Rattle.mum_port.specs.Did.{action_of}
-use Rattle.mum_port.specs.Facts.{PortFacts}
-use Rattle.mum_port.specs.Turn.{RoutesPacket as PortRoutes}
-use Rattle.mum_published.specs.Bell.{Rung, Answer, Comes, Lagging, NoMore}
-use Rattle.mum_published.specs.Facts.{Opening, PassFacts, ReplyFacts}
-use Rattle.mum_router.specs.Facts.{RouterFacts}
-use Rattle.mum_router.specs.Offering.{Delivery}
-use Rattle.mum_router.specs.Routing.{RoutesAt}
-use Rattle.mum_router.specs.declared.offering.Routed.{Routed}
+use Rattle.mum_step_laws.proofs.Common.{◌≡◌, ◌∙◌, ℕ, List, [], ◌∷◌, ◌++◌, length, Option, Some, None, refl, sym, ap, inl, inr, SessionId, idle, Along, TurnsTo, Turn, LinkFacts, action_of, PortFacts, told_by_passes, PortRoutes, Rung, Comes, Lagging, NoMore, NoteFacts, Opening, PassFacts, ReplyFacts, RouterFacts, Delivery, RoutesAt, Routed, Action, Voice, Edit, Parts, BoxesFacts, WorkerFacts, Admits, Hears, LearnsGiven, CommonFacts, RoutesPacket, PortSteps, Shares, Turned, WorkerTurned, shares_of, Moment, Take, Told, Looked, Took, history, look_asked, look_made, look_stepped, moments_along, moments_of, moments_stepped, takes_by, told_by, WorkersAreWorkers}
+use Rattle.mum_published.specs.Bell.{Answer}
 use Rattle.mum_session.specs.Machine.{session_of}
-use Rattle.mum_session.specs.declared.action.Action.{Action}
-use Rattle.mum_session.specs.declared.action.Action.TheVariants.{Voice}
-use Rattle.mum_state.specs.declared.edit.Edit.{Edit}
-use Rattle.mum_voice.specs.Packet.{Parts}
-use Rattle.mum_worker.specs.Boxes.{BoxesFacts}
-use Rattle.mum_worker.specs.Facts.{WorkerFacts}
-use Rattle.mum_worker.specs.Hearing.{Admits, Hears, LearnsGiven}
-use Rattle.mum_worker.specs.Routing.{CommonFacts, RoutesPacket}
-use Rattle.mum_worker.specs.Stepping.{PortSteps, Shares}
-use Rattle.mum_worker.specs.Turning.{Turned, WorkerTurned, shares_of}
-use Rattle.mum_worker_laws.specs.Laws.{Moment, Told, Looked, history, look_asked, look_made, look_stepped, looks_along, moments_of, told_by}
-use Rattle.mum_step_laws.specs.WorkerRuns.{WorkersAreWorkers}
-use Rattle.mum_step_laws.proofs.WorkerRunning.{Leads, leads_on, leads_same, leads_saw, leads_told}
+use Rattle.mum_step_laws.proofs.WorkerRunning.{Leads, leads_on, leads_same, leads_saw, leads_told, leads_took}
 
--- a relation of routers by what happened between them, that holds of nothing, of a reply, of a route, and of one
+-- a relation of routers by what happened between them, that holds of nothing, of a reply, of what was taken, of a route, and of one
 -- thing after another
 record Walks (opening : Opening) (R : RouterFacts → RouterFacts → List Moment → Type 0) : Type 0 where
   same : (old new : RouterFacts) → new ≡ old → R old new []
   told : (reply : ReplyFacts) (old mid new : RouterFacts) → LearnsGiven reply.note old mid → Admits reply.roll mid new → R old new (Told reply ∷ [])
+  took : (takes : List Take) (note : Option NoteFacts) (old new : RouterFacts) → LearnsGiven note old new → R old new (Took takes note ∷ [])
   saw : (connection : ℕ) (old : RouterFacts) (speaker : SessionId) (packet : Parts) (edits : List Edit) (deliveries : List Delivery) (new : RouterFacts) (routed : Routed)
       → RoutesAt opening old speaker packet edits deliveries new routed
       → R old new (Looked (record { connection = connection; speaker = speaker; packet = packet; edits = edits; deliveries = deliveries }) ∷ [])
@@ -57,21 +32,22 @@ module _ (opening : Opening) (R : RouterFacts → RouterFacts → List Moment �
 
   module _ {L : Type 0} (facts : L → LinkFacts) where
     stepped : (boxes : BoxesFacts) (old : PortFacts L) (before : Shares) (new : PortFacts L) (after : Shares) (steps : PortSteps facts opening boxes old before new after)
-        → R before.common.router after.common.router (look_stepped opening facts boxes old before new after steps)
+        → R before.common.router after.common.router (moments_stepped opening facts boxes old before new after steps)
     stepped boxes old before new after steps =
-        subst (λ (r : RouterFacts). R before.common.router r (look_stepped opening facts boxes old before new after steps))
-        (sym (ap (λ (c : CommonFacts). c.router) steps.noted))
+        walks.on before.common.router steps.routed.router after.common.router
+        (look_stepped opening facts boxes old before new after steps) (Took (takes_by old.machine steps.turned.0) (told_by_passes new.passes) ∷ [])
         (of_asked old.machine.connection (session_of old.machine.stage) (action_of old.machine steps.turned.0.handled) before.common steps.routed steps.turned.1.routes)
+        (walks.took (takes_by old.machine steps.turned.0) (told_by_passes new.passes) steps.routed.router after.common.router steps.learns)
 
     along_all : (boxes : BoxesFacts) (olds : List (PortFacts L)) (before : Shares) (news : List (PortFacts L)) (after : Shares) (along : Along (PortSteps facts opening boxes) olds before news after)
-        → R before.common.router after.common.router (looks_along opening facts boxes olds before news after along)
+        → R before.common.router after.common.router (moments_along opening facts boxes olds before news after along)
     along_all boxes [] before [] after is = same_common before.common after.common (ap (λ (s : Shares). s.common) is)
     along_all boxes [] before (new ∷ news) after none = absurd none
     along_all boxes (old ∷ olds) before [] after none = absurd none
     along_all boxes (old ∷ olds) before (new ∷ news) after (between, step, rest) =
         walks.on before.common.router between.common.router after.common.router
-        (look_stepped opening facts boxes old before new between step)
-        (looks_along opening facts boxes olds between news after rest)
+        (moments_stepped opening facts boxes old before new between step)
+        (moments_along opening facts boxes olds between news after rest)
         (stepped boxes old before new between step)
         (along_all boxes olds between news after rest)
 
@@ -87,7 +63,7 @@ module _ (opening : Opening) (R : RouterFacts → RouterFacts → List Moment �
     turned_one old new turn turned =
         walks.on old.common.router turned.between.common.router new.common.router
         (told_by turned.hears.item)
-        (looks_along opening facts turned.between.boxes turned.between.ports (shares_of turned.between turned.heard) turned.steps.steps.stepped (shares_of new turned.worked) turned.steps.steps.along)
+        (moments_along opening facts turned.between.boxes turned.between.ports (shares_of turned.between turned.heard) turned.steps.steps.stepped (shares_of new turned.worked) turned.steps.steps.along)
         (heard turned.hears.item (record old { bell = turned.hears.bell }) turned.between turned.hears.hears)
         (along_all turned.between.boxes turned.between.ports (shares_of turned.between turned.heard) turned.steps.steps.stepped (shares_of new turned.worked) turned.steps.steps.along)
 
@@ -107,6 +83,7 @@ module _ (opening : Opening) (published : List Edit) where
   leads_walk = record {
     same = leads_same opening published;
     told = leads_told opening published;
+    took = leads_took opening published;
     saw = leads_saw opening published;
     on = leads_on opening published;
   }

@@ -1,10 +1,9 @@
 -- The steps that change what a role has of the core: no step of another role does.
 use Rattle.std.specs.Prelude.{◌≡◌, ◌==◌, ℕ, Bool, true, false}
-use Rattle.mum_control.specs.Facts.{ControlFacts}
-use Rattle.mum_core.specs.Core.{CoreState, connection_at, worker_at}
-use Rattle.mum_core.specs.Step.{does}
 use Rattle.mum_record.specs.declared.step.Step.{Step}
 use Rattle.mum_record.specs.declared.step.Step.TheVariants.{Edit, Frame, Look, Offer, Post, Publish, Tell}
+use Rattle.mum_core.specs.{Core.CoreState, Core.connection_at, Core.worker_at, Step.does}
+use Rattle.mum_control.specs.Facts.{ControlFacts}
 use Rattle.mum_step_laws.specs.ControlSteps.{OwnsAs}
 
 -- the steps of the owner

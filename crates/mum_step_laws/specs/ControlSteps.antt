@@ -1,27 +1,22 @@
 -- What the control owner does as steps of the core.
 use Rattle.std.specs.Prelude.{◌≡◌, ◌⊎◌, ℕ, ◌<◌, Bool, true, false, List, ◌∷◌, Option, Some, None, length, map, slice_get, slice_set}
 use Rattle.std.specs.Option.{option_map}
-use Rattle.mum_base.specs.declared.number.Cause.TheVariants.{Lagged}
-use Rattle.mum_control.specs.Commanded.{Commanded}
-use Rattle.mum_control.specs.Facts.{ControlFacts}
-use Rattle.mum_control.specs.Posting.{PostsNext, parcel_of}
-use Rattle.mum_control.specs.declared.posted.Posted.{Posted}
-use Rattle.mum_control.specs.declared.posted.Posted.TheVariants as posted
-use Rattle.mum_core.specs.Connection.{answered, is_of, next_command, next_of_frame, session_of}
-use Rattle.mum_core.specs.Core.{CoreState, connection_at, is_opened, posts_at}
-use Rattle.mum_core.specs.Step.{does, illegal}
-use Rattle.mum_core.specs.steps.Close.{has_cause}
-use Rattle.mum_core.specs.steps.Edit.{decision, reply_to}
-use Rattle.mum_core.specs.steps.Post.{has_room, next_notice, put}
-use Rattle.mum_notify.specs.declared.notice.Notice.{Notice}
+use Rattle.mum_base.specs.declared.number.{Cause.TheVariants.Lagged, SessionId.SessionId}
 use Rattle.mum_outbox.specs.Facts.{PassFacts as BoxFacts}
-use Rattle.mum_outbox.specs.declared.parcel.PostParcel.{PostParcel}
-use Rattle.mum_published.specs.Calls.{appended}
-use Rattle.mum_published.specs.Facts.{NoteFacts, ReplyFacts}
 use Rattle.mum_record.specs.declared.step.Step.TheVariants.{Edit, Post, Publish, Tell}
+use Rattle.mum_state.specs.declared.verdict.Verdict.{Verdict}
+use Rattle.mum_published.specs.{Calls.appended, Facts.NoteFacts, Facts.ReplyFacts}
+use Rattle.mum_notify.specs.declared.notice.Notice.{Notice}
+use Rattle.mum_parcel.specs.Facts.{PostFacts}
 use Rattle.mum_session.specs.Reply.{reply_end}
 use Rattle.mum_session.specs.declared.command.Command.{Command}
-use Rattle.mum_state.specs.declared.verdict.Verdict.{Verdict}
+use Rattle.mum_core.specs.Connection.{answered, is_of, next_command, next_of_frame, session_of}
+use Rattle.mum_core.specs.Core.{CoreState, connection_at, is_opened, posts_at}
+use Rattle.mum_core.specs.{Step.does, Step.illegal, steps.Close.has_cause, steps.Edit.decision, steps.Edit.reply_to}
+use Rattle.mum_core.specs.steps.Post.{has_room, next_notice, put}
+use Rattle.mum_control.specs.{Commanded.Commanded, Facts.ControlFacts, Posting.PostsNext}
+use Rattle.mum_control.specs.declared.posted.Posted.{Posted}
+use Rattle.mum_control.specs.declared.posted.Posted.TheVariants as posted
 
 -- the core has the opening, the edits and the pending notices of this control owner
 pub record OwnsAs (control : ControlFacts) (core : CoreState) : Type 0 where
@@ -43,7 +38,7 @@ abbrev pub published_with : Option NoteFacts → CoreState → CoreState
 published_with None core = core
 published_with (Some note) core = does core Publish
 
--- the revision of which a note tells
+-- the revision that a note reports
 abbrev pub revision_noted : Option NoteFacts → Option ℕ
 revision_noted note = option_map (λ note. length note.edits) note
 
@@ -61,7 +56,7 @@ pub record DecidesAsEdit (command : Command) (reply : ReplyFacts) (new : Control
   pub kept : connection_at (does core (Edit command.connection)) command.connection
       ≡ answered (next_of_frame (connection_at core command.connection)) (reply_to core command.connection verdict)
       (connection_at core command.connection)
-  -- the reply may be told with its note, where a frame asked for the command
+  -- the reply may be sent with its note, where a frame asked for the command
   pub told : next_of_frame (connection_at core command.connection) ≡ Some command.what
       → illegal (published_with reply.note (does core (Edit command.connection)))
       (Tell command.connection (revision_noted reply.note)) ≡ None
@@ -86,14 +81,26 @@ was_posted posted.None = false
 was_posted (posted.Posted session) = true
 was_posted (posted.Lagged session) = false
 
+-- a notice without its slot, and without the edits that come with it
+pub record Text : Type 0 where
+  pub to : SessionId
+  pub bytes : List ℕ
+  pub last : Bool
+
+abbrev pub text_of_notice : Notice → Text
+text_of_notice notice = record { to = notice.to; bytes = notice.bytes; last = notice.last }
+
+abbrev pub text_of_parcel : PostFacts → Text
+text_of_parcel parcel = record { to = parcel.to; bytes = parcel.bytes; last = parcel.last }
+
 -- the notice is offered once to the box of its slot, which takes it as the posts of a slot of the core would; no
 -- other box changes
-pub record PutsNotice (next : Notice) (sent : Bool) (posts after : List (BoxFacts PostParcel)) : Type 0 where
-  pub before : BoxFacts PostParcel
-  pub later : BoxFacts PostParcel
+pub record PutsNotice (next : Notice) (sent : Bool) (posts after : List (BoxFacts PostFacts)) : Type 0 where
+  pub before : BoxFacts PostFacts
+  pub later : BoxFacts PostFacts
   pub box : slice_get posts next.slot.0 ≡ Some before
-  pub offered : (notices : List Notice) → before.offered ≡ map parcel_of notices
-      → later.offered ≡ map parcel_of (put sent next notices)
+  pub offered : (notices : List Notice) → map text_of_parcel before.offered ≡ map text_of_notice notices
+      → map text_of_parcel later.offered ≡ map text_of_notice (put sent next notices)
   pub others : after ≡ slice_set posts next.slot.0 later
 
 -- a post of the owner is the step Post: the first pending notice, once, to the box of its slot. Where the posts of

@@ -1,10 +1,9 @@
 -- What an owner publishes in its turn as a step of the core.
 use Rattle.std.specs.Prelude.{◌≡◌, None}
-use Rattle.mum_core.specs.Core.{CoreState}
-use Rattle.mum_core.specs.Step.{does, illegal}
-use Rattle.mum_owner.specs.Facts.{OwnerFacts}
-use Rattle.mum_published.specs.Calls.{all_published}
 use Rattle.mum_record.specs.declared.step.Step.TheVariants.{Publish}
+use Rattle.mum_published.specs.Calls.{all_published}
+use Rattle.mum_core.specs.{Core.CoreState, Step.does, Step.illegal}
+use Rattle.mum_owner.specs.Facts.{OwnerFacts}
 use Rattle.mum_step_laws.specs.ControlSteps.{OwnsAs}
 
 -- what an owner publishes in its turn is the step Publish

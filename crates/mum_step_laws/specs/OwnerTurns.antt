@@ -1,30 +1,23 @@
 -- A turn of an owner as steps of the core.
+use mathlib.Core.Logic.{inl, inr}
 use Rattle.std.specs.Prelude.{◌≡◌, ℕ, ◌&&◌, Bool, true, false, List, [], ◌∷◌, ◌++◌, Option, Some, None, MatchOption}
 use Rattle.std.specs.List.{AllByRecursion, flat_map}
-use mathlib.Core.Logic.{inl, inr}
 use Rattle.mum_base.specs.declared.number.SessionId.{SessionId}
-use Rattle.mum_control.specs.Commanded.{Commanded}
-use Rattle.mum_control.specs.Facts.{ControlFacts}
-use Rattle.mum_core.specs.Core.{CoreState}
-use Rattle.mum_core.specs.Laws.{IsRun, ran}
+use Rattle.mum_io.specs.{Door.DoorFacts, Link.LinkFacts}
 use Rattle.mum_crew.specs.declared.role.Turn.{Turn}
-use Rattle.mum_io.specs.Door.{DoorFacts}
-use Rattle.mum_io.specs.Link.{LinkFacts}
+use Rattle.mum_record.specs.declared.step.Step.{Step, TheVariants.Edit, TheVariants.Post, TheVariants.Publish}
+use Rattle.mum_published.specs.Facts.{NoteFacts, ReplyFacts}
+use Rattle.mum_session.specs.declared.command.Command.{Command}
+use Rattle.mum_core.specs.{Core.CoreState, Laws.IsRun, Laws.ran}
+use Rattle.mum_port.specs.declared.item.DeskItem.{DeskItem}
+use Rattle.mum_control.specs.{Commanded.Commanded, Facts.ControlFacts}
 use Rattle.mum_owner.specs.Banning.{IsGivenOrRefused, SettledBy, TestedBy, banned_in, is_banned, with_warden}
-use Rattle.mum_owner.specs.Facts.{OwnerFacts}
-use Rattle.mum_owner.specs.Given.{IsGiven}
-use Rattle.mum_owner.specs.Guests.{owned, session_of}
+use Rattle.mum_owner.specs.{Facts.OwnerFacts, Given.IsGiven, Guests.owned, Guests.session_of, Turned.OwnerTurned}
+use Rattle.mum_owner.specs.Written.{is_leave, is_login}
 use Rattle.mum_owner.specs.Serving.{LeaveIsGiven, Next, Receives, ReceivesBy, ReceivesItem, Serves, ServesDesk, leave_of, must_wait, next, with_pass}
 use Rattle.mum_owner.specs.Serving.Next.{Again, Goes, Rest, Take}
-use Rattle.mum_owner.specs.Turned.{OwnerTurned}
-use Rattle.mum_owner.specs.Written.{is_leave, is_login}
-use Rattle.mum_port.specs.declared.item.DeskItem.{DeskItem}
-use Rattle.mum_port.specs.declared.item.DeskItem.TheVariants as items
-use Rattle.mum_published.specs.Facts.{NoteFacts, ReplyFacts}
-use Rattle.mum_record.specs.declared.step.Step.{Step}
-use Rattle.mum_record.specs.declared.step.Step.TheVariants.{Edit, Post, Publish}
-use Rattle.mum_session.specs.declared.command.Command.{Command}
 use Rattle.mum_step_laws.specs.ControlSteps.{HasAsked, OwnsAs}
+use Rattle.mum_port.specs.declared.item.DeskItem.TheVariants as items
 
 -- ---- what is decided in a turn
 
@@ -52,7 +45,8 @@ module _ {D L : Type 0} where
   decided_tested false old login new given = decided_given old login new given
 
   -- nor is a removal for whose ban there was no memory
-  abbrev pub decided_settling : (login : Bool) (banned : Option SessionId) (old : OwnerFacts D L) (command : Command) (new : OwnerFacts D L)
+  abbrev pub decided_settling : (login : Bool) (banned : Option SessionId) (old : OwnerFacts D L) (command : Command)
+      (new : OwnerFacts D L)
       → SettledBy login banned old command new → List Decision
   decided_settling true banned old command new tests =
       decided_tested (is_banned old command tests.warden.last) (with_warden tests.warden old) command new tests.tested
@@ -87,7 +81,8 @@ module _ {D L : Type 0} where
   -- a list of bans is no command
   abbrev pub decided_item : (old : OwnerFacts D L) (item : Option DeskItem) (new : OwnerFacts D L)
       → ReceivesItem old item new → List Decision
-  decided_item old (Some (items.Command command)) new received = decided_owned (owned old.guests.rows command) old new received
+  decided_item old (Some (items.Command command)) new received =
+      decided_owned (owned old.guests.rows command) old new received
   decided_item old others new received = []
 
   -- a login that had waited
@@ -140,8 +135,10 @@ module _ {D L : Type 0} (door_facts : D → DoorFacts) (link_facts : L → LinkF
 -- that is decided waits in the core for this command. The core has then what the control owner has
 abbrev pub OwnersAreOwners : (D L : Type 0) → (D → DoorFacts) → (L → LinkFacts) → Type 0
 OwnersAreOwners D L door_facts link_facts =
-    (old : OwnerFacts D L) (turn : Turn) (new : OwnerFacts D L) (turned : OwnerTurned door_facts link_facts old turn new)
+    (old : OwnerFacts D L) (turn : Turn) (new : OwnerFacts D L)
+    (turned : OwnerTurned door_facts link_facts old turn new)
     → (core : CoreState) → OwnsAs old.control core
-    → AllByRecursion (λ decision. HasAsked decision.command core) (decisions_of door_facts link_facts old turn new turned)
+    → AllByRecursion (λ decision. HasAsked decision.command core)
+    (decisions_of door_facts link_facts old turn new turned)
     → IsRun core (steps_of_turn door_facts link_facts old turn new turned)
     × OwnsAs new.control (ran core (steps_of_turn door_facts link_facts old turn new turned))

@@ -1,64 +1,42 @@
 -- What a port of a worker does as steps of the core.
 use Rattle.std.specs.Prelude.{◌≡◌, ◌≢◌, ◌==◌, ℕ, ◌+◌, ◌<◌, ◌≤◌, ⊤, true, false, IsTrue, List, [], ◌∷◌, ◌++◌, Option, Some, None, is_some, length, map, option_and_then, option_to_list, slice_get, if◌then◌else◌}
-use Rattle.std.specs.List.{flat_map}
-use Rattle.std.specs.Option.{option_map}
-use Rattle.mum_base.specs.declared.number.Cause.{Cause}
-use Rattle.mum_base.specs.declared.number.Cause.TheVariants.{Rejected, Kicked, Lagged}
-use Rattle.mum_base.specs.declared.number.SessionId.{SessionId}
-use Rattle.mum_base.specs.declared.number.Slot.{Slot}
-use Rattle.mum_base.specs.declared.number.TheConstants.{SLOTS}
+use Rattle.std.specs.{List.flat_map, Option.option_map}
+use Rattle.mum_base.specs.declared.number.Cause.{Cause, TheVariants.Rejected, TheVariants.Kicked, TheVariants.Lagged}
+use Rattle.mum_base.specs.declared.number.{SessionId.SessionId, Slot.Slot, TheConstants.SLOTS}
 use Rattle.mum_base.specs.declared.reply.ReplyEnd.TheVariants.{Decided}
-use Rattle.mum_control.specs.Posting.{parcel_of}
-use Rattle.mum_core.specs.Connection.{is_untold, leave_waiting, wire_of}
-use Rattle.mum_core.specs.Core.{CoreState, connection_at, is_opened, outbox_at, posts_at, start, up, worker_at}
-use Rattle.mum_core.specs.Laws.{ran, told_notice, wired}
-use Rattle.mum_core.specs.Machine.{stage_of}
-use Rattle.mum_core.specs.Reply.{reply}
-use Rattle.mum_core.specs.Step.{does, frame_action, illegal}
-use Rattle.mum_core.specs.Worker.{HeldPacket, in_hand}
-use Rattle.mum_core.specs.declared.connection.Connection.{Connection}
-use Rattle.mum_core.specs.declared.connection.Leave.TheVariants.{Stays}
-use Rattle.mum_core.specs.declared.machine.Totals.{Totals}
-use Rattle.mum_core.specs.steps.Close.{has_cause}
-use Rattle.mum_core.specs.steps.Collect.{framed}
-use Rattle.mum_core.specs.steps.Drain.{carried}
-use Rattle.mum_core.specs.steps.Tell.{wire_to}
+use Rattle.mum_io.specs.Link.{LinkFacts}
 use Rattle.mum_frame.specs.Frame.{frame_spelling}
 use Rattle.mum_frame.specs.declared.frame.Frame.{Frame}
-use Rattle.mum_io.specs.Link.{LinkFacts}
-use Rattle.mum_port.specs.Facts.{PortFacts, may_handle, next_word}
-use Rattle.mum_port.specs.Handling.{HandlesFirst, Sinks}
-use Rattle.mum_port.specs.Replies.{TakesReply}
-use Rattle.mum_port.specs.Steps.{ClosesFor, sinks}
-use Rattle.mum_port.specs.Taking.{TakesPost, TakesVoice, foreign_count}
-use Rattle.mum_port.specs.declared.item.DeskItem.{DeskItem}
-use Rattle.mum_port.specs.declared.item.DeskItem.TheVariants as items
-use Rattle.mum_port.specs.declared.passes.Passes.{Passes}
-use Rattle.mum_port.specs.declared.stage.Stage.{Stage}
-use Rattle.mum_port.specs.declared.stage.Parting.TheVariants as partings
-use Rattle.mum_port.specs.declared.stage.Stage.TheVariants.{Ending, Live}
-use Rattle.mum_published.specs.Facts.{Opening}
-use Rattle.mum_record.specs.declared.head.Version.{Version}
-use Rattle.mum_record.specs.declared.step.Step.{Step}
+use Rattle.mum_record.specs.declared.{head.Version.Version, step.Step.Step}
 use Rattle.mum_record.specs.declared.step.Step.TheVariants.{Close, Collect, Drain, Frame as FrameStep, Open, Tell}
-use Rattle.mum_session.specs.Action.{action}
-use Rattle.mum_session.specs.Machine.{Machine, answered}
-use Rattle.mum_session.specs.Reply.{reply_end, wire}
-use Rattle.mum_session.specs.declared.action.TheConstants.{BAN_LIST}
-use Rattle.mum_session.specs.declared.command.Asked.{Asked}
-use Rattle.mum_session.specs.declared.session.Stage.TheVariants as stages
 use Rattle.mum_state.specs.State.{StateValue}
-use Rattle.mum_state.specs.declared.verdict.Verdict.{Verdict}
-use Rattle.mum_state.specs.declared.verdict.Verdict.TheVariants.{Accepted}
-use Rattle.mum_worker.specs.Hearing.{TakesIn}
+use Rattle.mum_state.specs.declared.verdict.Verdict.{Verdict, TheVariants.Accepted}
+use Rattle.mum_published.specs.Facts.{Opening}
+use Rattle.mum_session.specs.{Action.action, Machine.Machine, Machine.answered, Reply.reply_end, Reply.wire}
+use Rattle.mum_session.specs.declared.{action.TheConstants.BAN_LIST, command.Asked.Asked}
+use Rattle.mum_core.specs.Connection.{is_untold, leave_waiting, wire_of}
+use Rattle.mum_core.specs.{Laws.ran, Laws.told_notice, Laws.wired, Machine.stage_of, Reply.reply}
+use Rattle.mum_core.specs.{Step.does, Step.frame_action, Step.illegal, Worker.HeldPacket, Worker.in_hand}
+use Rattle.mum_core.specs.steps.{Close.has_cause, Collect.framed, Drain.carried, Tell.wire_to}
+use Rattle.mum_core.specs.Core.{CoreState, connection_at, is_opened, outbox_at, posts_at, start, up, worker_at}
+use Rattle.mum_core.specs.declared.connection.{Connection.Connection, Leave.TheVariants.Stays}
+use Rattle.mum_core.specs.declared.machine.Totals.{Totals}
+use Rattle.mum_port.specs.{Facts.PortFacts, Facts.may_handle, Facts.next_word, Handling.HandlesFirst, Handling.Sinks}
+use Rattle.mum_port.specs.{Replies.TakesReply, Steps.ClosesFor, Steps.sinks}
+use Rattle.mum_port.specs.{Taking.TakesPost, Taking.TakesVoice, Taking.foreign_count, Passes.PassesFacts}
+use Rattle.mum_port.specs.declared.{item.DeskItem.DeskItem, stage.Stage.Stage}
+use Rattle.mum_port.specs.declared.stage.Stage.TheVariants.{Ending, Live}
+use Rattle.mum_worker.specs.{Hearing.TakesIn, Record.RecordFacts, Routing.CommonFacts, Routing.RoutesPacket}
 use Rattle.mum_worker.specs.declared.intake.Intake.{Intake}
-use Rattle.mum_worker.specs.Record.{RecordFacts}
-use Rattle.mum_worker.specs.Routing.{CommonFacts, RoutesPacket}
 use Rattle.mum_worker_laws.specs.Lives.{Said, said_by}
-use Rattle.mum_step_laws.specs.WorkerSteps.{held_packet, parcel_in}
+use Rattle.mum_step_laws.specs.ControlSteps.{text_of_notice, text_of_parcel}
+use Rattle.mum_step_laws.specs.WorkerSteps.{held_packet, parcel_of_core}
+use Rattle.mum_port.specs.declared.item.DeskItem.TheVariants as items
+use Rattle.mum_port.specs.declared.stage.Parting.TheVariants as partings
+use Rattle.mum_session.specs.declared.session.Stage.TheVariants as stages
 
 -- a connection of the core that is what this machine of a port knows of it. The machine awaits a reply exactly where
--- a command of its connection waits to be decided, or its reply to be told
+-- a command of its connection waits to be decided, or its reply to be sent
 pub record IsKnownAs (machine : Machine) (connection : Connection) : Type 0 where
   pub worker_is : connection.worker ≡ machine.worker
   pub version_is : connection.version ≡ machine.version
@@ -134,7 +112,7 @@ ListsAreNoSteps L =
 
 -- ---- a reply
 
--- the reply to this verdict waits to be told, and nothing else of the connection
+-- the reply to this verdict waits to be sent, and nothing else of the connection
 pub record HasReply (machine : Machine) (revision : ℕ) (session : Option SessionId) (verdict : Verdict)
     (core : CoreState) : Type 0 where
   pub decided_is : (connection_at core machine.connection).decided ≡ Some (reply revision session verdict)
@@ -147,11 +125,11 @@ MayNote verdict revision None core = ⊤
 MayNote (Accepted edit) revision (Some noted) core = (revision ≤ noted) × (noted ≤ core.published)
 MayNote others revision (Some noted) core = ⊥
 
--- a reply that an open port takes is told by the step Tell, with a note or without: the connection is then what the
+-- a reply that an open port takes is sent by the step Tell, with a note or without: the connection is then what the
 -- port knows of it, and what comes on its wire is what the port is to write
 abbrev pub RepliesAreTold : {L : Type 0} → (L → LinkFacts) → Type 0
 RepliesAreTold {L} facts =
-    (bytes : List ℕ) (passes : Option Passes) (old : PortFacts L) (closed : Option Cause) (new : PortFacts L)
+    (bytes : List ℕ) (passes : Option PassesFacts) (old : PortFacts L) (closed : Option Cause) (new : PortFacts L)
     (revision : ℕ) (session : Option SessionId) (verdict : Verdict) (note : Option ℕ)
     → TakesReply facts (reply_end verdict) bytes passes old closed new → bytes ≡ wire session verdict
     → (core : CoreState) → IsOpenAs old.machine core → HasReply old.machine revision session verdict core
@@ -168,7 +146,7 @@ pub record IsSeated (core : CoreState) (c : ℕ) (session : SessionId) (slot : S
   pub not_closed : (connection_at core c).closed ≡ None
   pub seat_is : (connection_at core c).seat ≡ Some (record { session = session; slot = slot })
 
--- the totals where so many parcels for other sessions were taken, one at most
+-- the totals where n parcels for other sessions were taken, one at most
 abbrev pub totals_after : ℕ → Totals → Totals
 totals_after strays totals = if strays == 0 then totals else record totals { stale = up totals.stale }
 
@@ -177,10 +155,10 @@ totals_after strays totals = if strays == 0 then totals else record totals { sta
 -- counted
 abbrev pub SpeechIsDrained : Type 0
 SpeechIsDrained =
-    (session : SessionId) (passes : Passes) (took : _) (after : Passes) (out : List ℕ)
+    (session : SessionId) (passes : PassesFacts) (took : _) (after : PassesFacts) (out : List ℕ)
     (takes : TakesVoice session passes took after out)
     → (core : CoreState) (c : ℕ) → IsSeated core c session passes.slot
-    → option_map parcel_in (slice_get (outbox_at core passes.slot.0) 0) ≡ takes.parcel
+    → slice_get (outbox_at core passes.slot.0) 0 ≡ option_map parcel_of_core takes.parcel
     → (illegal core (Drain c) ≡ None)
     × (flat_map (λ parcel. (carried parcel).frame) (wired core (Drain c)) ≡ out)
     × ((does core (Drain c)).totals ≡ totals_after (foreign_count took) core.totals)
@@ -188,10 +166,10 @@ SpeechIsDrained =
 -- a look of a port into its post box, for which it is live, is the step Collect, in the same way
 abbrev pub NoticesAreCollected : Type 0
 NoticesAreCollected =
-    (session : SessionId) (passes : Passes) (took : _) (after : Passes) (out : List ℕ) (stage_after : Stage)
+    (session : SessionId) (passes : PassesFacts) (took : _) (after : PassesFacts) (out : List ℕ) (stage_after : Stage)
     (takes : TakesPost session passes Live took after out stage_after)
     → (core : CoreState) (c : ℕ) → IsSeated core c session passes.slot
-    → option_map parcel_of (slice_get (posts_at core passes.slot.0) 0) ≡ takes.parcel
+    → option_map text_of_notice (slice_get (posts_at core passes.slot.0) 0) ≡ option_map text_of_parcel takes.parcel
     → (illegal core (Collect c) ≡ None)
     × (flat_map (λ notice. (framed notice).frame) (told_notice core (Collect c)) ≡ out)
     × ((does core (Collect c)).totals ≡ totals_after (foreign_count took) core.totals)
@@ -223,10 +201,10 @@ ClosesAreCloses {L} facts =
 -- more steps
 abbrev pub KickedMayClose : Type 0
 KickedMayClose =
-    (session : SessionId) (passes : Passes) (took : _) (after : Passes) (out : List ℕ) (stage_after : Stage)
+    (session : SessionId) (passes : PassesFacts) (took : _) (after : PassesFacts) (out : List ℕ) (stage_after : Stage)
     (takes : TakesPost session passes Live took after out stage_after) → stage_after ≡ Ending partings.Kicked
     → (version : Version) (opening : StateValue) (workers : ℕ) (steps more : List Step) (c : ℕ)
     → IsSeated (ran (start version opening workers) steps) c session passes.slot → passes.slot.0 < SLOTS
-    → option_map parcel_of (slice_get (posts_at (ran (start version opening workers) steps) passes.slot.0) 0)
-    ≡ takes.parcel
+    → option_map text_of_notice (slice_get (posts_at (ran (start version opening workers) steps) passes.slot.0) 0)
+    ≡ option_map text_of_parcel takes.parcel
     → has_cause (ran (ran (start version opening workers) steps) more) c Kicked ≡ true

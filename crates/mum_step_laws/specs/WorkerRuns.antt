@@ -1,36 +1,25 @@
 -- The turns of a worker as steps of one worker of the core.
+use mathlib.Core.List.{IsPrefix}
 use Rattle.std.specs.Prelude.{◌≡◌, ◌↔◌, ◌<◌, ◌≤◌, ℕ, ⊤, true, false, List, [], ◌∷◌, ◌++◌, Option, Some, None, fold, is_none, length, replicate, slice_get, take}
 use Rattle.std.specs.List.{flat_map}
-use mathlib.Core.List.{IsPrefix}
-use Rattle.mum_core.specs.Connection.{is_untold}
-use Rattle.mum_core.specs.Core.{CoreState, connection_at, is_opened, state_at, worker_at}
-use Rattle.mum_core.specs.Step.{does, frame_action, illegal}
-use Rattle.mum_core.specs.Worker.{HeldPacket, WorkerState, idle, in_hand, least_look}
-use Rattle.mum_core.specs.declared.connection.Reply.{Reply}
-use Rattle.mum_core.specs.declared.connection.Seat.{Seat}
-use Rattle.mum_core.specs.declared.worker.Outgoing.{Outgoing}
-use Rattle.mum_core.specs.steps.Frame.{holding, spoken}
-use Rattle.mum_core.specs.steps.Look.{copies, looked}
-use Rattle.mum_core.specs.steps.Offer.{left}
-use Rattle.mum_core.specs.steps.Tell.{edit_revision, has_edit, noted}
+use Rattle.mum_io.specs.Link.{LinkFacts}
+use Rattle.mum_voice.specs.Packet.{packet}
 use Rattle.mum_crew.specs.Turns.{TurnsTo}
 use Rattle.mum_crew.specs.declared.role.Turn.{Turn}
-use Rattle.mum_io.specs.Link.{LinkFacts}
-use Rattle.mum_published.specs.Calls.{IsFresh}
-use Rattle.mum_published.specs.Facts.{NoteFacts, Opening, PassFacts}
 use Rattle.mum_record.specs.declared.step.Step.TheVariants.{Frame, Look, Offer, Tell}
-use Rattle.mum_router.specs.Facts.{RouterFacts}
-use Rattle.mum_session.specs.declared.action.Action.{Action}
-use Rattle.mum_session.specs.declared.action.Action.TheVariants.{Voice}
-use Rattle.mum_state.specs.After.{at}
-use Rattle.mum_state.specs.State.{StateValue}
+use Rattle.mum_state.specs.{After.at, State.StateValue}
 use Rattle.mum_state.specs.declared.edit.Edit.{Edit}
-use Rattle.mum_voice.specs.Packet.{packet}
-use Rattle.mum_worker.specs.Facts.{WorkerFacts}
-use Rattle.mum_worker.specs.Hearing.{LearnsGiven}
-use Rattle.mum_worker.specs.Opening.{HasOpened}
-use Rattle.mum_worker.specs.Turning.{WorkerTurned}
-use Rattle.mum_worker_laws.specs.Laws.{Look as Packet, Moment, Told, Looked, history, looks_in}
+use Rattle.mum_published.specs.{Calls.IsFresh, Facts.NoteFacts, Facts.Opening, Facts.PassFacts}
+use Rattle.mum_session.specs.declared.action.Action.{Action, TheVariants.Voice}
+use Rattle.mum_router.specs.Facts.{RouterFacts}
+use Rattle.mum_core.specs.{Connection.is_untold, Step.does, Step.frame_action, Step.illegal}
+use Rattle.mum_core.specs.steps.{Frame.holding, Frame.spoken, Look.copies, Look.looked, Offer.left}
+use Rattle.mum_core.specs.steps.Tell.{edit_revision, has_edit, noted}
+use Rattle.mum_core.specs.Core.{CoreState, connection_at, is_opened, state_at, worker_at}
+use Rattle.mum_core.specs.Worker.{HeldPacket, WorkerState, idle, in_hand, least_look}
+use Rattle.mum_core.specs.declared.{connection.Reply.Reply, connection.Seat.Seat, worker.Outgoing.Outgoing}
+use Rattle.mum_worker.specs.{Facts.WorkerFacts, Hearing.LearnsGiven, Opening.HasOpened, Turning.WorkerTurned}
+use Rattle.mum_worker_laws.specs.Laws.{Look as Packet, Moment, Told, Looked, Took, history, looks_in}
 use Rattle.mum_step_laws.specs.ControlSteps.{revision_noted}
 use Rattle.mum_step_laws.specs.WorkerSteps.{StandsAt, copies_for, held_packet}
 
@@ -44,7 +33,7 @@ pub data WorkerStep : Type 0 where
   LookAt : ℕ → WorkerStep
   OfferNext : WorkerStep
 
--- whether the cases of the core that speak of this worker allow the step, where so many edits are published
+-- whether the cases of the core that speak of this worker allow the step, where n edits are published
 abbrev pub Allows : ℕ → WorkerState → WorkerStep → Type 0
 Allows published worker (Hold held) = in_hand worker ≡ 0
 Allows published worker (Note None) = ⊤
@@ -79,7 +68,7 @@ abbrev pub HasNoted : Reply → Option ℕ → Type 0
 HasNoted reply None = ⊤
 HasNoted reply (Some revision) = (has_edit (Some reply) ≡ true) × (edit_revision (Some reply) ≤ revision)
 
--- no case of a connection forbids that a reply of it is told, with this note
+-- no case of a connection forbids that a reply of it is sent, with this note
 pub record MayBeTold (core : CoreState) (c : ℕ) (note : Option ℕ) : Type 0 where
   pub opened : is_opened core c ≡ true
   pub reply : Reply
@@ -137,10 +126,11 @@ module _ (states : ℕ → StateValue) where
 
 -- ---- the turns of a worker
 
--- a reply that was heard is one step; a packet that was routed is taken and looked for, and each of its copies is
+-- a reply that was heard is one step, and so is what was learnt of parcels; a packet that was routed is taken and looked for, and each of its copies is
 -- offered
 abbrev pub steps_of : Moment → List WorkerStep
 steps_of (Told reply) = Note (revision_noted reply.note) ∷ []
+steps_of (Took takes learnt) = Note (revision_noted learnt) ∷ []
 steps_of (Looked look) =
     Hold (held_packet look.speaker look.packet) ∷ LookAt (length look.edits)
     ∷ replicate (length look.deliveries) OfferNext
@@ -150,7 +140,7 @@ abbrev pub copies_offered : Packet → List Outgoing
 copies_offered look = copies_for look.speaker look.packet look.deliveries
 
 -- these moments are steps of a worker of the core that did nothing before, where these edits are published: each is
--- allowed where it comes, the offers take the copies that were offered, in order, and the worker comes to stand where
+-- allowed where it comes, the offers take the copies that were offered, in order, and the worker comes to be where
 -- this pass is, with nothing in hand
 pub record IsWorkerOf (opening : Opening) (published : List Edit) (moments : List Moment)
     (pass : PassFacts) : Type 0 where

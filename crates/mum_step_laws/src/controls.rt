@@ -3,7 +3,7 @@
 ghost use Rattle.mum_step_laws.specs.ControlSteps.{CommandsAreEdits, FullBoxesLag, NoticesArePosted};
 
 /// What the control owner makes of a command is the step Edit of its connection: the same edits are accepted, the same
-/// notices are pending, the outcome and the bytes of the reply are the same, and the reply may be told with its note. A
+/// notices are pending, the outcome and the bytes of the reply are the same, and the reply may be sent with its note. A
 /// command that was dropped, since memory ran out, is no step.
 pub fn commands_are_edits()
     ensures { CommandsAreEdits }

@@ -20,7 +20,7 @@ pub fn lists_are_no_steps<L: Link>()
     ensures { ListsAreNoSteps L }
 {}
 
-/// A reply that an open port takes is told by the step Tell: the connection is the same after it, and so are the bytes.
+/// A reply that an open port takes is sent by the step Tell: the connection is the same after it, and so are the bytes.
 pub fn replies_are_told<L: Link>()
     ensures { RepliesAreTold L.facts }
 {}

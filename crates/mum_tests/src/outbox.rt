@@ -2,82 +2,34 @@
 
 ghost use Rattle.std.specs.Prelude.{◌≡◌};
 
-use arrayvec::ArrayVec;
-use mum_base::{Octets, SessionId};
-use mum_outbox::{
-    Bell, BoxPass, Desk, Offered, PostBox, PostParcel, Queue, VoiceBox, VoiceParcel, capacities,
-};
-use std::alloc::Global;
+use mum_base::{POST_CAPACITY, VOICE_CAPACITY};
+use mum_outbox::{Bell, BoxPass, Desk, Offered, Queue};
+use mum_parcel::{PostBox, VoiceBox, capacities};
+use std::marker::Brand;
 use std::process::Abort;
 use std::sync::Wait;
 use std::thread;
 use std::thread::Threads;
 
-/// The parcels that each of two threads offers.
+// The items that each of two threads offers.
 const PARCELS: u32 = 500;
 
-/// The parcels that a third takes meanwhile. The others fit into the outbox.
+// The items that a third takes meanwhile. The others fit into the outbox.
 const TAKEN: u32 = 900;
 
-/// An item that tells its number.
-trait Numbered {
-    fn numbered(alloc: Global, number: u32) -> Self;
-
-    fn number(&self) -> u32;
+// An item with its number, and the turn in which it is offered.
+#[derive(Clone, Copy, Debug, Drop)]
+struct Item {
+    number: u32,
+    turn: u32,
 }
 
-impl Numbered for u32 {
-    fn numbered(_alloc: Global, number: u32) -> u32 {
-        number
-    }
+// A queue of the capacity of a voice outbox, and one of that of a post outbox.
+type SmallQueue = Queue<Item, VOICE_CAPACITY>;
 
-    fn number(&self) -> u32 {
-        *self
-    }
-}
+type LargeQueue = Queue<Item, POST_CAPACITY>;
 
-impl Numbered for VoiceParcel {
-    fn numbered(_alloc: Global, number: u32) -> VoiceParcel {
-        voice_parcel(number, 0)
-    }
-
-    fn number(&self) -> u32 {
-        self.to.0
-    }
-}
-
-impl Numbered for PostParcel {
-    fn numbered(alloc: Global, number: u32) -> PostParcel {
-        PostParcel {
-            to: SessionId(number),
-            bytes: Octets::from_vec(Vec::new(alloc)),
-            last: false,
-        }
-    }
-
-    fn number(&self) -> u32 {
-        self.to.0
-    }
-}
-
-/// A parcel with the turn in which it is offered.
-fn voice_parcel(to: u32, turn: u32) -> VoiceParcel {
-    let mut bytes = ArrayVec::new();
-    let _fits = bytes.try_extend_from_slice(&turn.to_be_bytes());
-    VoiceParcel {
-        to: SessionId(to),
-        bytes,
-    }
-}
-
-fn turn_of(parcel: &VoiceParcel) -> Option<u32> {
-    let [a, b, c, d] = *parcel.bytes.as_slice() else {
-        return None;
-    };
-    Some(u32::from_be_bytes([a, b, c, d]))
-}
-
-/// How many parcels came of each of two passes, and whether each came in its turn.
+// How many items came of each of two passes, and whether each came in its turn.
 #[derive(Clone, Copy, Debug, Drop, PartialEq)]
 struct Came {
     first: u32,
@@ -86,25 +38,24 @@ struct Came {
 }
 
 impl Came {
-    fn with(self, parcel: &VoiceParcel) -> Came {
-        let turn = turn_of(parcel);
-        match parcel.to.0 {
+    fn with(self, item: Item) -> Came {
+        match item.number {
             1 => Came {
                 first: self.first.wrapping_add(1),
                 second: self.second,
-                in_turn: self.in_turn && turn == Some(self.first),
+                in_turn: self.in_turn && item.turn == self.first,
             },
             _ => Came {
                 first: self.first,
                 second: self.second.wrapping_add(1),
-                in_turn: self.in_turn && turn == Some(self.second),
+                in_turn: self.in_turn && item.turn == self.second,
             },
         }
     }
 }
 
-/// Offers each parcel until it is sent.
-fn offer_all<R: Wait>(rt: &R, outbox: &VoiceBox, mut pass: BoxPass<VoiceParcel>, to: u32)
+// Offers each item until it is sent.
+fn offer_all<R: Wait>(rt: &R, outbox: &SmallQueue, mut pass: BoxPass<Item>, number: u32)
     requires { pass.queue ≡ outbox.now.queue }
 {
     let mut turn = 0;
@@ -112,18 +63,18 @@ fn offer_all<R: Wait>(rt: &R, outbox: &VoiceBox, mut pass: BoxPass<VoiceParcel>,
         if turn >= PARCELS {
             break;
         }
-        match outbox.offer_as(rt, &mut pass, voice_parcel(to, turn)) {
+        match outbox.offer_as(rt, &mut pass, Item { number, turn }) {
             Offered::Sent => turn += 1,
             Offered::Full(_) => thread::yield_now(),
         }
     }
 }
 
-/// Takes so many parcels, waiting for each.
+// Takes n items, waiting for each.
 fn take_some<R: Wait>(
     rt: &R,
-    outbox: &VoiceBox,
-    mut pass: BoxPass<VoiceParcel>,
+    outbox: &SmallQueue,
+    mut pass: BoxPass<Item>,
     mut came: Came,
     count: u32,
 ) -> Came
@@ -135,8 +86,8 @@ fn take_some<R: Wait>(
             break;
         }
         match outbox.take_as(rt, &mut pass) {
-            Some(parcel) => {
-                came = came.with(&parcel);
+            Some(item) => {
+                came = came.with(item);
                 taken += 1;
             }
             None => thread::yield_now(),
@@ -145,8 +96,8 @@ fn take_some<R: Wait>(
     came
 }
 
-/// Two threads offer while a third takes. What the third took.
-fn taken_meanwhile<R>(rt: R, outbox: &mut VoiceBox) -> Came
+// Two threads offer while a third takes. What the third took.
+fn taken_meanwhile<R>(rt: R, outbox: &mut SmallQueue) -> Came
 where
     R: Abort + Copy + Send + Threads + Wait + 'static,
 {
@@ -172,8 +123,8 @@ where
 }
 
 #[test]
-fn each_parcel_is_taken_or_left_once_in_its_turn(rt: HostRuntime) {
-    let mut outbox = VoiceBox::new(rt.alloc()).expect(&rt, "memory");
+fn each_item_is_taken_or_left_once_in_its_turn(rt: HostRuntime) {
+    let mut outbox = SmallQueue::new(rt.alloc()).expect(&rt, "memory");
     let taken = taken_meanwhile(rt, &mut outbox);
     let last = outbox.pass();
     let all = take_some(&rt, &outbox, last, taken, 2 * PARCELS - TAKEN);
@@ -185,68 +136,69 @@ fn each_parcel_is_taken_or_left_once_in_its_turn(rt: HostRuntime) {
     assert!(rt; outbox.take_as(&rt, &mut after).is_none());
 }
 
-/// Offers items with numbers from 0 until the queue is full, and gives the number that came back.
-fn fill<I: Numbered + Drop, const CAPACITY: usize, R: Wait>(
+// Offers items with numbers from 0 until the queue is full, and gives the number that came back.
+fn fill<const CAPACITY: usize, R: Wait>(
     rt: &R,
-    alloc: Global,
-    queue: &Queue<I, CAPACITY>,
-    pass: &mut BoxPass<I>,
+    queue: &Queue<Item, CAPACITY>,
+    pass: &mut BoxPass<Item>,
 ) -> Option<u32>
     requires { pass.old.queue ≡ queue.now.queue }
     ensures { pass.new.queue ≡ pass.old.queue }
 {
     for number in 0..u32::MAX {
-        if let Offered::Full(back) = queue.offer_as(rt, pass, I::numbered(alloc, number)) {
-            return Some(back.number());
+        let item = Item { number, turn: 0 };
+        if let Offered::Full(back) = queue.offer_as(rt, pass, item) {
+            return Some(back.number);
         }
     }
     None
 }
 
-/// A new queue is filled, left by one and filled again by one: the number that came back each time,
-/// the number that was taken, and how often the pass found it full.
-fn left_by_one<I: Numbered + Drop, const CAPACITY: usize, R: Abort + Wait>(
+// A new queue is filled, left by one and filled again by one: the number that came back each time,
+// the number that was taken, and how often the pass found it full.
+fn left_by_one<const CAPACITY: usize, R: Abort + Wait>(
     rt: &R,
-    alloc: Global,
-    queue: &mut Queue<I, CAPACITY>,
+    queue: &mut Queue<Item, CAPACITY>,
 ) -> (Option<u32>, Option<u32>, Option<u32>, u64) {
     let mut pass = queue.pass();
     let mut taker = queue.pass();
     let share = queue.share().expect(rt, "memory");
-    let first = fill(rt, alloc, queue, &mut pass);
-    let taken = share.take_as(rt, &mut taker).map(|item| item.number());
-    let second = fill(rt, alloc, &share, &mut pass);
+    let first = fill(rt, queue, &mut pass);
+    let taken = share.take_as(rt, &mut taker).map(|item| item.number);
+    let second = fill(rt, &share, &mut pass);
     queue.rule_as(&mut taker);
     (first, taken, second, pass.full())
 }
 
 #[test]
 fn a_queue_holds_its_capacity_and_is_left_by_one(rt: HostRuntime) {
-    let mut voice = VoiceBox::new(rt.alloc()).expect(&rt, "memory");
-    let mut post = PostBox::new(rt.alloc()).expect(&rt, "memory");
-    let mut desk = Desk::<u32>::new(rt.alloc()).expect(&rt, "memory");
-    let mut bell = Bell::<u32>::new(rt.alloc()).expect(&rt, "memory");
+    let voice = VoiceBox::<Brand>::new(rt.alloc()).expect(&rt, "memory");
+    let post = PostBox::<Brand>::new(rt.alloc()).expect(&rt, "memory");
+    let mut small = SmallQueue::new(rt.alloc()).expect(&rt, "memory");
+    let mut large = LargeQueue::new(rt.alloc()).expect(&rt, "memory");
+    let mut desk = Desk::<Item>::new(rt.alloc()).expect(&rt, "memory");
+    let mut bell = Bell::<Item>::new(rt.alloc()).expect(&rt, "memory");
     assert_eq!(rt;
         capacities(&voice, &post, &desk, &bell),
         (128, 8192, 1024, 1024)
     );
-    let left = left_by_one(&rt, rt.alloc(), &mut voice);
+    let left = left_by_one(&rt, &mut small);
     assert_eq!(rt; left, (Some(128), Some(0), Some(1), 2));
-    let left = left_by_one(&rt, rt.alloc(), &mut post);
+    let left = left_by_one(&rt, &mut large);
     assert_eq!(rt; left, (Some(8192), Some(0), Some(1), 2));
-    let left = left_by_one(&rt, rt.alloc(), &mut desk);
+    let left = left_by_one(&rt, &mut desk);
     assert_eq!(rt; left, (Some(1024), Some(0), Some(1), 2));
-    let left = left_by_one(&rt, rt.alloc(), &mut bell);
+    let left = left_by_one(&rt, &mut bell);
     assert_eq!(rt; left, (Some(1024), Some(0), Some(1), 2));
 }
 
 #[test]
 fn a_pass_counts_what_it_found_full_or_empty(rt: HostRuntime) {
-    let mut outbox = VoiceBox::new(rt.alloc()).expect(&rt, "memory");
+    let mut outbox = SmallQueue::new(rt.alloc()).expect(&rt, "memory");
     let mut offers = outbox.pass();
     let mut takes = outbox.pass();
     assert!(rt; outbox.take_as(&rt, &mut takes).is_none());
-    assert_eq!(rt; fill(&rt, rt.alloc(), &outbox, &mut offers), Some(128));
+    assert_eq!(rt; fill(&rt, &outbox, &mut offers), Some(128));
     assert!(rt; outbox.take_as(&rt, &mut takes).is_some());
     assert_eq!(rt; (offers.full(), offers.empty()), (1, 0));
     assert_eq!(rt; (takes.full(), takes.empty()), (0, 1));

@@ -17,7 +17,7 @@ use std::thread;
 use std::thread::Threads;
 use std::time::Clock;
 
-/// A link that gives back each byte that is written to it. It tells nothing of its bytes.
+// A link that gives back each byte that is written to it. It reports nothing of its bytes.
 #[derive(Drop)]
 struct Echo {
     byte: Option<u8>,
@@ -55,7 +55,7 @@ impl Link for Echo {
     }
 }
 
-/// A door that gives one echo, wherever it is opened, and then fails.
+// A door that gives one echo, wherever it is opened, and then fails.
 #[derive(Drop)]
 struct OneEcho {
     given: u64,
@@ -85,7 +85,7 @@ impl Door for OneEcho {
     }
 }
 
-/// A station of a thread that never sleeps.
+// A station of a thread that never sleeps.
 #[derive(Drop)]
 struct Awake;
 
@@ -130,7 +130,7 @@ impl Station for Awake {
     fn note_late(&mut self) {}
 }
 
-/// A crew of this many threads that never sleep.
+// A crew of this many threads that never sleep.
 #[derive(Drop)]
 struct Watchers<X> {
     rt: X,
@@ -176,7 +176,7 @@ impl<X: Wait + Threads + Clock + Copy + Sync> Crew for Watchers<X> {
     }
 }
 
-/// A role that writes its number into a word at each of its turns.
+// A role that writes its number into a word at each of its turns.
 #[derive(Drop)]
 struct Writer {
     number: u64,
@@ -208,7 +208,7 @@ impl Role for Writer {
     }
 }
 
-/// Writers with the numbers from 1, each with this many turns.
+// Writers with the numbers from 1, each with this many turns.
 fn writers(
     rt: &impl Abort,
     alloc: Global,
@@ -228,7 +228,7 @@ fn writers(
     all
 }
 
-/// Runs three writers of three turns each. The end, and what they wrote.
+// Runs three writers of three turns each. The end, and what they wrote.
 fn write_all<C: Crew>(rt: &impl Abort, alloc: Global, crew: &mut C) -> (CrewEnd, u64) {
     let word = Arc::new(alloc, AtomicU64::new(0)).expect(rt, "memory");
     let run = crew.run(alloc, writers(rt, alloc, 3, 3, &word));
@@ -271,7 +271,7 @@ fn threads_run_all_roles_or_none(rt: HostRuntime) {
     assert_eq!(rt; end, CrewEnd::Ran);
 }
 
-/// Asks a door once, and hands a byte to whom it gives. The byte that comes back.
+// Asks a door once, and hands a byte to whom it gives. The byte that comes back.
 fn echoed<D: Door>(door: &mut D, byte: u8) -> Option<u8> {
     let DoorOpen::Opened = door.open("here") else {
         return None;
@@ -298,14 +298,14 @@ fn a_door_of_ones_own_serves(rt: HostRuntime) {
     assert_eq!(rt; echoed(&mut door, 7), None);
 }
 
-/// A client that ends. The second write to it fails.
+// A client that ends. The second write to it fails.
 fn link(rt: &impl Abort, alloc: Global) -> DoorEvent {
     let events = vec![in alloc; LinkEvent::End].expect(rt, "memory");
     let failing = vec![in alloc; 2].expect(rt, "memory");
     DoorEvent::Conn(MemLink::new(alloc, events, failing))
 }
 
-/// A door that gives two clients, and nobody between them.
+// A door that gives two clients, and nobody between them.
 fn door(rt: &impl Abort, alloc: Global) -> MemDoor {
     let mut events = Vec::new(alloc);
     events.push(link(rt, alloc)).expect(rt, "memory");
@@ -321,7 +321,7 @@ fn bytes(written: Option<&Octets>) -> Option<&[u8]> {
     }
 }
 
-/// The next client of a door.
+// The next client of a door.
 fn accepted(rt: &impl Abort, door: &mut MemDoor) -> MemLink {
     match door.poll_accept() {
         Accept::Conn(link) => link,

@@ -12,7 +12,7 @@ const TRANSCRIPT: &str = "opened 1 0\npublished 0\ntotals looks 0 copies 0 full 
 
 const JOURNAL: &str = "journal 1\nworkers 1\nconfig -\nc 1 - leave ignored 8\nworker 0\nend\n";
 
-/// These words, which are spelled with a space between two of them.
+// These words, written with a space between two of them.
 fn words_of(rt: &impl Abort, alloc: Global, spelled: &str) -> Vec<String> {
     let mut words = Vec::new(alloc);
     for word in spelled.split(' ') {
@@ -22,15 +22,15 @@ fn words_of(rt: &impl Abort, alloc: Global, spelled: &str) -> Vec<String> {
     words
 }
 
-/// An input whose read with this number fails.
+// An input whose read with this number fails.
 fn source(rt: &impl Abort, alloc: Global, input: &[u8], read: u64) -> MemSource {
     let bytes = Octets::of(alloc, input).expect(rt, "memory");
     let failing = Vec::from_slice(alloc, &[read]).expect(rt, "memory");
     MemSource::new(bytes, failing)
 }
 
-/// Runs these words over this input, whose read and write with these numbers fail. Compares the status, what it wrote
-/// and what it said.
+// Runs these words over this input, whose read and write with these numbers fail. Compares the status, what it wrote
+// and what it said.
 fn compare(
     rt: &impl Abort,
     alloc: Global,
@@ -67,7 +67,7 @@ fn failing_streams_leave_a_front(rt: HostRuntime) {
     // the read and the write that fail; the status, what is written, what is said
     let cases = [
         ((1, 0), (3, "", "murmur: 3 ReadFault\n")),
-        // the end behind the last line is looked for
+        // the end after the last line is looked for
         ((2, 0), (3, TRANSCRIPT, "murmur: 3 ReadFault\n")),
         ((0, 1), (4, "", "murmur: 4 WriteFault\n")),
         ((0, 2), (4, "opened 1 0\n", "murmur: 4 WriteFault\n")),
@@ -127,7 +127,7 @@ fn an_audit_tells_failing_streams(rt: HostRuntime) {
     }
 }
 
-/// A line, and this many zero bytes behind it.
+// A line, and this many zero bytes after it.
 fn padded(rt: &impl Abort, alloc: Global, line: &str, zeros: u32) -> Vec<u8> {
     let mut input = Vec::from_slice(alloc, line.as_bytes()).expect(rt, "memory");
     for _ in 0..zeros {
@@ -138,7 +138,7 @@ fn padded(rt: &impl Abort, alloc: Global, line: &str, zeros: u32) -> Vec<u8> {
 
 #[test]
 fn nothing_is_read_behind_a_fault(rt: HostRuntime) {
-    // a line and the zero bytes behind it, of which the second read fails: the status and what is said
+    // a line and the zero bytes after it, of which the second read fails: the status and what is said
     let cases = [
         ("audio 1\n", 200_000, 2, "murmur: 2 BadRecording line 1\n"),
         ("", 131_201, 10, "murmur: 10 TooLong line 1\n"),

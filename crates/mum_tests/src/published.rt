@@ -21,13 +21,13 @@ use std::sync::atomic::{AtomicBool, Ordering};
 use std::thread;
 use std::thread::Threads;
 
-/// The edits that one thread publishes, and the looks that another makes meanwhile.
+// The edits that one thread publishes, and the looks that another makes meanwhile.
 const TURNS: u32 = 1000;
 
-/// How often a thread asks whether the other has come to its point, before the test fails.
+// How often a thread asks whether the other has come to its point, before the test fails.
 const TRIES: u32 = 1_000_000;
 
-/// A publisher with so many passes, and a copy of its state.
+// A publisher with n passes, and a copy of its state.
 fn begin<R: Abort + Wait>(rt: &R, alloc: Global, count: u8) -> (Publisher, Vec<Pass>, State)
     requires { (0 < count) × (count ≤ 10) }
     ensures twin { result.2 ≡ latest result.0 }
@@ -39,7 +39,7 @@ fn begin<R: Abort + Wait>(rt: &R, alloc: Global, count: u8) -> (Publisher, Vec<P
     (publisher, passes, twin)
 }
 
-/// Appends an edit that sets the bandwidth, which the copy of the state takes first.
+// Appends an edit that sets the bandwidth, which the copy of the state takes first.
 fn append_bandwidth(
     alloc: Global,
     publisher: &mut Publisher,
@@ -62,7 +62,7 @@ fn append_bandwidth(
     publisher.append(edit)
 }
 
-/// Appends an edit and publishes it.
+// Appends an edit and publishes it.
 fn publish_one<R: Abort + Wait>(
     rt: &R,
     alloc: Global,
@@ -81,7 +81,7 @@ fn publish_one<R: Abort + Wait>(
     publisher.publish(rt).expect(rt, "memory")
 }
 
-/// Publishes edit after edit, each of which sets the bandwidth to one more, and gives the note of the last.
+// Publishes edit after edit, each of which sets the bandwidth to one more, and gives the note of the last.
 fn publish_all<R: Abort + Wait>(
     rt: &R,
     alloc: Global,
@@ -97,7 +97,7 @@ fn publish_all<R: Abort + Wait>(
     publish_one(rt, alloc, publisher, twin, DEFAULT_BANDWIDTH + TURNS)
 }
 
-/// The bandwidth at a look.
+// The bandwidth at a look.
 fn bandwidth_at<R: Wait>(rt: &R, pass: &mut Pass) -> u32
     ensures { pass.new.opening ≡ pass.old.opening }
 {
@@ -109,8 +109,8 @@ fn bandwidth_at<R: Wait>(rt: &R, pass: &mut Pass) -> u32
     pass.look(rt, ask, &mut |state: &State| state.server().bandwidth)
 }
 
-/// Looks again and again. It says whether no look saw fewer edits than the one before it, and each saw the
-/// bandwidth that the last of its edits set.
+// Looks again and again. It says whether no look saw fewer edits than the one before it, and each saw the
+// bandwidth that the last of its edits set.
 fn look_on<R: Wait>(rt: &R, mut pass: Pass) -> (Pass, bool)
     ensures { result.0.opening ≡ pass.opening }
 {
@@ -127,8 +127,8 @@ fn look_on<R: Wait>(rt: &R, mut pass: Pass) -> (Pass, bool)
     (pass, steady)
 }
 
-/// One thread publishes while another looks through the last pass. Then the pass learns the last note, and looks
-/// once more: what `look_on` says, the revision and the bandwidth.
+// One thread publishes while another looks through the last pass. Then the pass learns the last note, and looks
+// once more: what `look_on` says, the revision and the bandwidth.
 fn publish_beside_looks<R: Abort + Threads + Wait + Sync>(
     rt: &R,
     alloc: Global,
@@ -164,7 +164,7 @@ fn no_look_sees_less_than_the_one_before_it(rt: HostRuntime) {
     assert_eq!(rt; seen, (true, all, DEFAULT_BANDWIDTH + TURNS));
 }
 
-/// Whether the word is set in time.
+// Whether the word is set in time.
 fn is_set(word: &AtomicBool) -> bool {
     for _ in 0..TRIES {
         if word.load(Ordering::SeqCst) {
@@ -175,8 +175,8 @@ fn is_set(word: &AtomicBool) -> bool {
     false
 }
 
-/// A look that tells when it is made, and ends once the other look has answered. It says whether that came
-/// in time.
+// A look that reports when it is made, and ends once the other look has answered. It says whether that came
+// in time.
 fn look_until<R: Wait>(
     rt: &R,
     mut pass: Pass,
@@ -198,7 +198,7 @@ fn look_until<R: Wait>(
     )
 }
 
-/// A look that is made while the other lasts, and tells that it has answered.
+// A look that is made while the other lasts, and reports that it has answered.
 fn look_meanwhile<R: Wait>(
     rt: &R,
     mut pass: Pass,
@@ -211,7 +211,7 @@ fn look_meanwhile<R: Wait>(
     in_time && bandwidth == DEFAULT_BANDWIDTH
 }
 
-/// One thread looks with the last pass while another looks with the one before it: whether each came in time.
+// One thread looks with the last pass while another looks with the one before it: whether each came in time.
 fn look_at_once<R: Abort + Threads + Wait + Sync>(rt: &R, passes: &mut Vec<Pass>) -> (bool, bool) {
     let one = passes.pop().expect(rt, "a pass");
     let other = passes.pop().expect(rt, "another pass");
@@ -233,7 +233,7 @@ fn two_passes_look_at_once(rt: HostRuntime) {
     assert_eq!(rt; both, (true, true));
 }
 
-/// Takes the next reply, and learns its note and its roll, which are known to be of the pass's own `open`.
+// Takes the next reply, and learns its note and its roll, which are known to be of the pass's own `open`.
 fn learn_next<N: Naming, R: Wait>(
     rt: &R,
     bell: &Bell<Reply<N>>,
@@ -256,8 +256,8 @@ fn learn_next<N: Naming, R: Wait>(
     Some(reply)
 }
 
-/// An edit is published, its note goes through a bell, and a pass learns it and looks: the connection of the
-/// reply, the revision, the bandwidth.
+// An edit is published, its note goes through a bell, and a pass learns it and looks: the connection of the
+// reply, the revision, the bandwidth.
 fn relay<N: Naming, R: Abort + Wait>(
     rt: &R,
     alloc: Global,
@@ -292,7 +292,7 @@ fn relay<N: Naming, R: Abort + Wait>(
     (connection, pass.revision(), bandwidth)
 }
 
-/// The same, with the opening of this publisher.
+// The same, with the opening of this publisher.
 fn relay_of<R: Abort + Wait>(
     rt: &R,
     alloc: Global,
@@ -309,7 +309,7 @@ fn relay_of<R: Abort + Wait>(
     seen
 }
 
-/// The revision of what is published where nothing is appended.
+// The revision of what is published where nothing is appended.
 fn published_again<R: Abort + Wait>(rt: &R, publisher: &mut Publisher) -> u64 {
     let note = publisher.publish(rt).expect(rt, "memory");
     note.revision()

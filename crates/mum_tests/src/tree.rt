@@ -19,7 +19,7 @@ fn two_channels(rt: &impl Abort, alloc: Global) -> Tree {
     tree
 }
 
-/// Whether the first channel has this name, parent, description and link.
+// Whether the first channel has this name, parent, description and link.
 fn is_as(
     rt: &impl Abort,
     tree: &Tree,

@@ -15,14 +15,14 @@ const NO_FLAG: FlagChange = FlagChange {
     recording: None,
 };
 
-/// A session that listens to channel 6.
+// A session that listens to channel 6.
 fn join(rt: &impl Abort, roster: &mut Roster) -> SessionId {
     let ann = roster.join("ann", None, &[]).expect(rt, "a session");
     roster.listen(ann, ChannelId(6)).expect(rt, "a listener");
     ann
 }
 
-/// Changes a session in every part. Whether it was changed; if not, memory ran out.
+// Changes a session in every part. Whether it was changed; if not, memory ran out.
 fn change<'a>(
     rt: &impl Abort,
     roster: &mut Roster,
@@ -50,7 +50,7 @@ fn change<'a>(
     }
 }
 
-/// A list of channel 6 alone.
+// A list of channel 6 alone.
 fn list(rt: &impl Abort, alloc: Global) -> ChannelList {
     let mut named = Items::new(alloc);
     named.push(ChannelId(6)).expect(rt, "memory");

@@ -7,7 +7,7 @@ use mum_record::read_journal;
 use std::alloc::Global;
 use std::process::Abort;
 
-/// What is found in a journal, which is read from its text.
+// What is found in a journal, which is read from its text.
 fn audited(rt: &impl Abort, alloc: Global, text: &str) -> Audited {
     read_journals_are_auditable();
     let journal = read_journal(alloc, text.as_bytes()).expect(rt, "it is a journal");
@@ -18,8 +18,8 @@ fn audited(rt: &impl Abort, alloc: Global, text: &str) -> Audited {
     found
 }
 
-/// Compares what is found in a legal journal: the counts of its control entries, voice entries and copies, and of full
-/// boxes.
+// Compares what is found in a legal journal: the counts of its control entries, voice entries and copies, and of full
+// boxes.
 fn compare_legal(rt: &impl Abort, alloc: Global, text: &str, counts: (u64, u64, u64, u64)) {
     match audited(rt, alloc, text) {
         Audited::Legal {
@@ -32,7 +32,7 @@ fn compare_legal(rt: &impl Abort, alloc: Global, text: &str, counts: (u64, u64, 
     }
 }
 
-/// Compares the first wrong line of a journal.
+// Compares the first wrong line of a journal.
 fn compare_wrong(rt: &impl Abort, alloc: Global, text: &str, wrong: (u64, &str, &str)) {
     match audited(rt, alloc, text) {
         Audited::Legal { .. } => panic!(rt; "a line is wrong"),

@@ -2,14 +2,10 @@
 use Rattle.std.proofs.Common.{◌≡◌, true, List, [], ◌∷◌, Result, Ok, Err, ap, subst, sym}
 use Rattle.std.specs.Prelude.{◌&&◌, Bool, IsTrue, OnErr, OnOk}
 use Rattle.mum_state.specs.declared.edit.Edit.{Edit}
-use Rattle.mum_state.specs.Applied.{applied}
-use Rattle.mum_state.specs.Fits.{fits}
-use Rattle.mum_state.specs.Proper.{IsProper}
-use Rattle.mum_state.specs.State.{StateValue}
+use Rattle.mum_state.specs.{Applied.applied, Fits.fits, Proper.IsProper, State.StateValue}
+use Rattle.mum_cache.proofs.Public.{nothing_is_sound_lem, sound_stays_lem}
 use Rattle.mum_cache.specs.declared.perms.PermEntry.{PermEntry}
-use Rattle.mum_cache.specs.Perms.{ArePermsSound}
-use Rattle.mum_cache.specs.Routes.{no_routes}
-use Rattle.mum_cache.proofs.Staying.{nothing_is_sound_lem, sound_stays_lem}
+use Rattle.mum_cache.specs.{Perms.ArePermsSound, Routes.no_routes}
 
 pub followed : {A E : Type 0} (state new : StateValue) (edit : Edit) (perms : List PermEntry) (r : Result A E) → IsProper state → IsTrue (fits state edit)
     → OnOk r (new ≡ applied state edit) → OnErr r (new ≡ state) → ArePermsSound state perms → ArePermsSound new perms

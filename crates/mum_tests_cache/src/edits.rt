@@ -10,7 +10,7 @@ use mum_users::ChannelList;
 use std::alloc::Global;
 use std::process::Abort;
 
-/// Makes an edit that fits.
+// Makes an edit that fits.
 pub(crate) fn take(rt: &impl Abort, state: &mut State, edit: Edit)
     ensures { IsProper state.new }
 {
@@ -19,7 +19,7 @@ pub(crate) fn take(rt: &impl Abort, state: &mut State, edit: Edit)
     drop(edit);
 }
 
-/// A channel.
+// A channel.
 pub(crate) fn make(
     rt: &impl Abort,
     alloc: Global,
@@ -41,7 +41,7 @@ pub(crate) fn make(
     }
 }
 
-/// A channel is linked to others, or moved.
+// A channel is linked to others, or moved.
 pub(crate) fn edit_channel(
     rt: &impl Abort,
     alloc: Global,
@@ -63,7 +63,7 @@ pub(crate) fn edit_channel(
     }
 }
 
-/// An entry for a group, which applies here, and perhaps below.
+// An entry for a group, which applies here, and perhaps below.
 pub(crate) fn entry(
     rt: &impl Abort,
     alloc: Global,
@@ -81,7 +81,7 @@ pub(crate) fn entry(
     }
 }
 
-/// Gives a channel these groups and entries.
+// Gives a channel these groups and entries.
 pub(crate) fn set_policy(channel: ChannelId, groups: Items<Group>, acls: Items<AclEntry>) -> Edit {
     Edit::SetAcl {
         channel,
@@ -94,7 +94,7 @@ pub(crate) fn set_policy(channel: ChannelId, groups: Items<Group>, acls: Items<A
     }
 }
 
-/// A session joins.
+// A session joins.
 pub(crate) fn join(
     rt: &impl Abort,
     alloc: Global,
@@ -112,7 +112,7 @@ pub(crate) fn join(
     }
 }
 
-/// A session enters a channel.
+// A session enters a channel.
 pub(crate) fn enter(
     rt: &impl Abort,
     alloc: Global,

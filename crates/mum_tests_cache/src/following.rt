@@ -16,7 +16,7 @@ use std::marker::Brand;
 use std::process::Abort;
 use std::sync::ledger::{Blank, Ledger};
 
-/// The session that is asked for.
+// The session that is asked for.
 const OWN: SessionId = SessionId(1);
 
 const A: ChannelId = ChannelId(1);
@@ -44,7 +44,7 @@ fn ask_counted<L: Ledger>(
     perms.permissions_at(state, OWN, channel, &mut steps)
 }
 
-/// What the session may do in a channel, through what is kept.
+// What the session may do in a channel, through what is kept.
 fn ask(rt: &impl Abort, state: &State, perms: &mut PermCache, channel: ChannelId) -> Perm
     requires { ArePermsSound state.now perms.old }
     ensures { ArePermsSound state.now perms.new }
@@ -57,7 +57,7 @@ fn ask(rt: &impl Abort, state: &State, perms: &mut PermCache, channel: ChannelId
     ask_counted::<Brand>(Blank::new(1), state, perms, channel)
 }
 
-/// Makes an edit. What is kept stays sound beside it.
+// Makes an edit. What is kept stays sound beside it.
 fn apply_beside(state: &mut State, perms: &PermCache, edit: &Edit) -> Result<(), OutOfMemory>
     requires proper { IsProper state.old }
     requires fits { IsTrue (fits state.old edit.now) }
@@ -69,7 +69,7 @@ fn apply_beside(state: &mut State, perms: &PermCache, edit: &Edit) -> Result<(),
     state.apply(edit)
 }
 
-/// The same of an edit that fits.
+// The same of an edit that fits.
 fn follow(rt: &impl Abort, state: &mut State, perms: &PermCache, edit: Edit)
     requires proper { IsProper state.old }
     requires sound { ArePermsSound state.old perms.now }
@@ -81,7 +81,7 @@ fn follow(rt: &impl Abort, state: &mut State, perms: &PermCache, edit: Edit)
     drop(edit);
 }
 
-/// What the session may do in a channel, through one cache: twice before an edit, and after it.
+// What the session may do in a channel, through one cache: twice before an edit, and after it.
 fn asked_beside(
     rt: &impl Abort,
     alloc: Global,
@@ -101,7 +101,7 @@ fn asked_beside(
     (first.0, kept.0, after.0)
 }
 
-/// Denies a group to speak in a channel, there alone.
+// Denies a group to speak in a channel, there alone.
 fn deny(rt: &impl Abort, alloc: Global, channel: ChannelId, group: &str) -> Edit {
     let one = entry(rt, alloc, group, false, Perm::NONE, Perm::SPEAK);
     let mut acls = Items::new(alloc);
@@ -109,8 +109,8 @@ fn deny(rt: &impl Abort, alloc: Global, channel: ChannelId, group: &str) -> Edit
     set_policy(channel, Items::new(alloc), acls)
 }
 
-/// Session 1 in channel A, 2 in B and 3 in C, which are below the root, A linked to B and B to C. Nobody may
-/// speak in B.
+// Session 1 in channel A, 2 in B and 3 in C, which are below the root, A linked to B and B to C. Nobody may
+// speak in B.
 fn fill_linked(rt: &impl Abort, alloc: Global, state: &mut State)
     ensures { IsProper state.new }
 {
@@ -147,7 +147,7 @@ fn a_policy_that_is_set_is_asked(rt: HostRuntime) {
     assert_eq!(rt; seen, (0xB06, 0xB06, 0xB0E));
 }
 
-/// The session in the root. Who is in A may not speak there.
+// The session in the root. Who is in A may not speak there.
 fn fill_guarded(rt: &impl Abort, alloc: Global, state: &mut State)
     ensures { IsProper state.new }
 {
@@ -169,7 +169,7 @@ fn who_enters_is_asked_anew(rt: HostRuntime) {
     assert_eq!(rt; after, before);
 }
 
-/// The session in D, beside A, B below it and C below that. Whose channel is below A may not speak in B.
+// The session in D, beside A, B below it and C below that. Whose channel is below A may not speak in B.
 fn fill_nested(rt: &impl Abort, alloc: Global, state: &mut State)
     ensures { IsProper state.new }
 {

@@ -1,4 +1,4 @@
-//! Tests of what is kept of answers: to ask for what stands costs no walk, and what is kept follows each edit. No
+//! Tests of what is kept of answers: to ask for what is valid costs no walk, and what is kept follows each edit. No
 //! other crate uses it.
 #![tactic(auto)]
 

@@ -1,4 +1,4 @@
-//! `mum_cache`: an entry that stands is not walked again by the calls that a router makes. A body that walks at each
+//! `mum_cache`: an entry that is valid is not walked again by the calls that a router makes. A body that walks at each
 //! call does not end in the time that a test has.
 
 ghost use Rattle.std.specs.Prelude.{◌≡◌, ◌<◌};
@@ -17,16 +17,16 @@ use std::marker::Brand;
 use std::process::Abort;
 use std::sync::ledger::{Blank, Ledger};
 
-/// The session that is asked for.
+// The session that is asked for.
 const OWN: SessionId = SessionId(1);
 
-/// The channel in which it is, 32 under the root.
+// The channel in which it is, 32 under the root.
 const DEEPEST: ChannelId = ChannelId(32);
 
-/// How often each is asked.
+// How often each is asked.
 const TIMES: u32 = 1_000_000;
 
-/// 128 entries that let the group `g` enter, here and below.
+// 128 entries that let the group `g` enter, here and below.
 fn entries(rt: &impl Abort, alloc: Global) -> Items<AclEntry> {
     let mut acls = Items::new(alloc);
     for _ in 0..128u32 {
@@ -36,7 +36,7 @@ fn entries(rt: &impl Abort, alloc: Global) -> Items<AclEntry> {
     acls
 }
 
-/// The group `g`, which adds account 5.
+// The group `g`, which adds account 5.
 fn group(rt: &impl Abort, alloc: Global) -> Group {
     let add = Vec::from_slice(alloc, &[AccountId(5)]).expect(rt, "memory");
     Group {
@@ -48,14 +48,14 @@ fn group(rt: &impl Abort, alloc: Global) -> Group {
     }
 }
 
-/// The root has the group and the entries.
+// The root has the group and the entries.
 fn root_policy(rt: &impl Abort, alloc: Global) -> Edit {
     let mut groups = Items::new(alloc);
     groups.push(group(rt, alloc)).expect(rt, "memory");
     set_policy(ChannelId::ROOT, groups, entries(rt, alloc))
 }
 
-/// One channel more under the last, with entries.
+// One channel more under the last, with entries.
 fn add_channel(rt: &impl Abort, alloc: Global, state: &mut State, last: u32) {
     let id = ChannelId(last.saturating_add(1));
     take(rt, state, make(rt, alloc, id, ChannelId(last), "below"));
@@ -74,7 +74,7 @@ fn account(rt: &impl Abort, alloc: Global) -> Edit {
     }
 }
 
-/// A path of 33 channels with entries for a group, and a session that is not in it in the deepest.
+// A path of 33 channels with entries for a group, and a session that is not in it in the deepest.
 fn fill(rt: &impl Abort, alloc: Global, state: &mut State) {
     take(rt, state, root_policy(rt, alloc));
     for last in 0..32u32 {
@@ -86,7 +86,7 @@ fn fill(rt: &impl Abort, alloc: Global, state: &mut State) {
     take(rt, state, enter(rt, alloc, OWN, DEEPEST));
 }
 
-/// Asks for the permission and the route, so many times, over the same caches.
+// Asks for the permission and the route, n times, over the same caches.
 fn ask<L: Ledger>(
     rt: &impl Abort,
     blank: Blank,
@@ -109,7 +109,7 @@ fn ask<L: Ledger>(
     }
 }
 
-/// Asks over new caches.
+// Asks over new caches.
 fn ask_over_new_caches(rt: &impl Abort, alloc: Global, state: &State) {
     let mut caches = Caches::new(alloc).expect(rt, "memory");
     let mut scratch = Scratch::new(alloc).expect(rt, "memory");

@@ -1,15 +1,13 @@
 //! `mum_control`: a session whose box is full, and an edit whose publish runs out of memory.
 
-ghost use Rattle.std.specs.Prelude.{◌≡◌, [], length};
-ghost use Rattle.mum_base.specs.declared.number.TheConstants.{SLOTS as slots};
+ghost use Rattle.std.specs.Prelude.{◌≡◌, []};
 ghost use Rattle.mum_published.specs.Calls.{latest};
 
-use crate::opening::{begin, boxes_of};
-use mum_base::{Mark, Octets, POST_CAPACITY, SessionId, Slot, Text};
+use crate::opening::{begin, boxes};
+use mum_base::{Mark, POST_CAPACITY, SessionId, Slot, Text};
 use mum_control::{Control, Posted};
 use mum_fields::Message;
-use mum_msg_state::Authenticate;
-use mum_outbox::{Offered, PostBox, PostParcel};
+use mum_msg_state::{Authenticate, UserState};
 use mum_published::{Naming, Publisher};
 use mum_rules_user::UserMessage;
 use mum_session::{Asked, Command};
@@ -21,28 +19,11 @@ use std::process::Abort;
 use std::sync::Wait;
 use std::test::Fail;
 
-/// The version of the client of the login: 1.5.0.
+// The version of the client of the login: 1.5.0.
 const VERSION: u32 = 0x1_0500;
 
-/// Fills a box with parcels for nobody, and gives their number.
-fn fill<R: Wait>(rt: &R, alloc: Global, queue: PostBox) -> usize {
-    let mut queue = queue;
-    let mut pass = queue.pass();
-    for count in 0..POST_CAPACITY + 1 {
-        let parcel = PostParcel {
-            to: SessionId(0),
-            bytes: Octets::from_vec(Vec::new(alloc)),
-            last: false,
-        };
-        if let Offered::Full(_) = queue.offer_as(rt, &mut pass, parcel) {
-            return count;
-        }
-    }
-    POST_CAPACITY + 1
-}
-
-/// The login of a user who has no session yet.
-fn login(rt: &impl Abort, alloc: Global) -> Command {
+// The login of a user who has no session yet.
+pub(crate) fn login(rt: &impl Abort, alloc: Global) -> Command {
     let name = Text::of(alloc, "anna").expect(rt, "memory");
     let mut message = Authenticate::new(alloc);
     message.username = Some(name);
@@ -54,7 +35,19 @@ fn login(rt: &impl Abort, alloc: Global) -> Command {
     }
 }
 
-/// Where an accepted edit was published.
+// A command by which that user mutes themselves, or speaks again.
+pub(crate) fn self_mute(alloc: Global, is_muted: bool) -> Command {
+    let mut message = UserState::new(alloc);
+    message.self_mute = Some(is_muted);
+    Command {
+        connection: 7,
+        worker: 0,
+        session: Some(SessionId(1)),
+        what: Asked::User(UserMessage::User(message)),
+    }
+}
+
+// Where an accepted edit was published.
 #[derive(Clone, Copy, Debug, PartialEq)]
 enum Published {
     /// The reply has the note.
@@ -67,20 +60,22 @@ enum Published {
     Wrong,
 }
 
-/// What became of a login, and of the first notices to its session, whose box was full.
+// What became of a login, and of the notices to its session, which takes none.
 #[derive(Clone, Copy, Debug, PartialEq)]
 struct Seen {
     published: Published,
     /// The next slot, after the login.
     next: Option<Slot>,
-    /// What became of the first notice, and who lags then.
+    /// How many notices its box took, what became of the next one, and who lags then. None were posted where the login
+    /// was not published at once.
+    filled: usize,
     first: Posted,
     lagged: Option<SessionId>,
-    /// What became of the second one, once the box was emptied.
+    /// What became of the next one, once the box was emptied.
     second: Posted,
 }
 
-/// How a login at a control owner that is opened for it ended.
+// How a login at a control owner that is opened for it ended.
 #[derive(Clone, Copy, Debug, PartialEq)]
 enum Ended {
     /// Memory ran out as it was opened. How many edits its publisher had appended then, and how many of these it had
@@ -90,7 +85,7 @@ enum Ended {
     Seen(Seen),
 }
 
-/// Publishes again, and gives the revision of the note.
+// Publishes again, and gives the revision of the note.
 fn publish_again<N: Naming, R: Wait>(rt: &R, control: &mut Control<'_, N>) -> Option<u64> {
     match control.publish(rt) {
         Ok(note) => Some(note.revision()),
@@ -98,7 +93,7 @@ fn publish_again<N: Naming, R: Wait>(rt: &R, control: &mut Control<'_, N>) -> Op
     }
 }
 
-/// Where the edit of the last command was published, whose reply had a note of this revision, or none.
+// Where the edit of the last command was published, whose reply had a note of this revision, or none.
 fn publication<N: Naming, R: Wait>(
     rt: &R,
     control: &mut Control<'_, N>,
@@ -142,7 +137,7 @@ fn publication<N: Naming, R: Wait>(
     }
 }
 
-/// Gives a command. Where its edit was published.
+// Gives a command. Where its edit was published.
 fn command<N: Naming, R: Wait>(
     rt: &R,
     control: &mut Control<'_, N>,
@@ -158,40 +153,68 @@ fn command<N: Naming, R: Wait>(
     publication(rt, control, noted, no_memory)
 }
 
-/// A user logs in, whose box is full. It is emptied after the first notice.
-fn see<N: Naming, R: Wait>(rt: &R, control: &mut Control<'_, N>, login: Command) -> Seen {
+// Posts a notice after each of at most n commands of the session, until one is not posted. How many were, and
+// what became of that one.
+fn fill<N: Naming, R: Wait>(
+    rt: &R,
+    alloc: Global,
+    control: &mut Control<'_, N>,
+    commands: usize,
+) -> (usize, Posted) {
+    for count in 0..commands {
+        drop(control.command(rt, self_mute(alloc, count % 2 == 0)));
+        let posted = control.post_next(rt);
+        if posted != Posted::Posted(SessionId(1)) {
+            return (count, posted);
+        }
+    }
+    (commands, Posted::None)
+}
+
+// A user logs in, and n commands fill its box. It is emptied after the notice for which there was no place.
+fn see<N: Naming, R: Wait>(
+    rt: &R,
+    alloc: Global,
+    control: &mut Control<'_, N>,
+    login: Command,
+    commands: usize,
+) -> Seen {
     let published = command(rt, control, login);
     let next = control.next_slot();
-    let first = control.post_next(rt);
+    let (filled, first) = match published {
+        Published::AtOnce => fill(rt, alloc, control, commands),
+        _ => (0, Posted::None),
+    };
     let lagged = control.lagged().first().copied();
     control.empty_post(rt, SessionId(1));
     let second = control.post_next(rt);
     Seen {
         published,
         next,
+        filled,
         first,
         lagged,
         second,
     }
 }
 
-/// The same at a control owner that is opened for it.
-fn open_and_see<N: Naming, R: Wait>(
+// The same at a control owner that is opened for it.
+fn open_and_see<N: Naming, R: Abort + Wait>(
     rt: &R,
     alloc: Global,
     publisher: &mut Publisher,
     state: State,
-    boxes: Vec<PostBox>,
     login: Command,
+    commands: usize,
 ) -> Option<Seen>
     requires opening { publisher.old.opening ≡ N.opening }
     requires state { state ≡ latest publisher.old }
     requires pending { publisher.old.pending ≡ [] }
-    requires boxes { length boxes.items ≡ slots }
 {
+    let boxes = boxes(rt, alloc);
     match Control::<N>::open(alloc, state, publisher, boxes) {
         Ok(mut control) => {
-            let seen = see(rt, &mut control, login);
+            let seen = see(rt, alloc, &mut control, login, commands);
             drop(control);
             Some(seen)
         }
@@ -202,28 +225,26 @@ fn open_and_see<N: Naming, R: Wait>(
     }
 }
 
-/// The same, with the opening of this publisher.
-fn see_at<R: Wait>(
+// The same, with the opening of this publisher.
+fn see_at<R: Abort + Wait>(
     rt: &R,
     alloc: Global,
     publisher: &mut Publisher,
     state: State,
-    boxes: Vec<PostBox>,
     login: Command,
+    commands: usize,
 ) -> Option<Seen>
     requires state { state ≡ latest publisher.old }
     requires pending { publisher.old.pending ≡ [] }
-    requires boxes { length boxes.items ≡ slots }
 {
-    open_and_see::<Brand, R>(rt, alloc, publisher, state, boxes, login)
+    open_and_see::<Brand, R>(rt, alloc, publisher, state, login, commands)
 }
 
-/// How a login at an empty state ends.
-fn ended_by<R: Abort + Wait>(rt: &R, alloc: Global, boxes: Vec<PostBox>, login: Command) -> Ended
-    requires { length boxes.items ≡ slots }
-{
+// How a login at an empty state ends, after which n commands are given.
+fn log_in<R: Abort + Wait>(rt: &R, alloc: Global, commands: usize) -> Ended {
+    let login = login(rt, alloc);
     let (mut publisher, state) = begin(rt, alloc);
-    let ended = match see_at(rt, alloc, &mut publisher, state, boxes, login) {
+    let ended = match see_at(rt, alloc, &mut publisher, state, login, commands) {
         Some(seen) => Ended::Seen(seen),
         None => Ended::AtOpening {
             appended: publisher.revision(),
@@ -234,27 +255,20 @@ fn ended_by<R: Abort + Wait>(rt: &R, alloc: Global, boxes: Vec<PostBox>, login: 
     ended
 }
 
-/// How many parcels the box took before, and how the login ended.
-fn log_in<R: Abort + Wait>(rt: &R, alloc: Global) -> (usize, Ended) {
-    let login = login(rt, alloc);
-    let (boxes, own) = boxes_of(rt, alloc);
-    let filled = fill(rt, alloc, own);
-    (filled, ended_by(rt, alloc, boxes, login))
-}
-
 #[test]
 fn a_session_whose_box_is_full_lags(rt: HostRuntime) {
     let session = SessionId(1);
     let expected = Seen {
         published: Published::AtOnce,
         next: Some(Slot(1)),
+        filled: POST_CAPACITY,
         first: Posted::Lagged(session),
         lagged: Some(session),
         second: Posted::Posted(session),
     };
     assert_eq!(rt;
-        log_in(&rt, rt.alloc()),
-        (POST_CAPACITY, Ended::Seen(expected))
+        log_in(&rt, rt.alloc(), POST_CAPACITY + 1),
+        Ended::Seen(expected)
     );
 }
 
@@ -268,12 +282,11 @@ fn published_at_once(published: Published) -> Result<(), Fail> {
     }
 }
 
-// It passes only where no allocation is refused. `rt try --test --fail-alloc N` refuses the Nth, and the error says what
-// came of it: of one before the opening that memory ran out, with the error.
+// It passes only where no allocation of the login is refused. `rt try --test --fail-alloc N` refuses the Nth, and the
+// error says what came of it: of one before the opening that memory ran out, with the error.
 #[test]
 fn an_edit_whose_publish_was_refused_is_in_the_next_note(rt: HostRuntime) -> Result<(), Fail> {
-    let (_filled, ended) = log_in(&rt, rt.alloc());
-    match ended {
+    match log_in(&rt, rt.alloc(), 0) {
         Ended::AtOpening {
             appended: 0,
             pending: 0,

@@ -10,7 +10,7 @@ use std::marker::Model;
 use std::process::Abort;
 use std::sync::Wait;
 
-/// A desk to put into, and a bell to take from.
+// A desk to put into, and a bell to take from.
 #[derive(Drop)]
 pub(crate) struct Ends<L: Drop, N: Naming> {
     desk: Desk<DeskItem>,
@@ -32,7 +32,7 @@ impl<L: Drop, N: Naming> Model for Ends<L, N> {
 }
 
 impl<L: Drop, N: Naming> Ends<L, N> {
-    /// At one owner of each of its queues.
+    // At one owner of each of its queues.
     fn new(desk: Desk<DeskItem>, bell: Bell<BellItem<L, N>>) -> Ends<L, N> {
         let mut desk = desk;
         let mut bell = bell;
@@ -50,7 +50,7 @@ impl<L: Drop, N: Naming> Ends<L, N> {
         let _offered = self.desk.offer_as(rt, &mut self.to_desk, item);
     }
 
-    /// The first reply that the owner put into the bell, past at most seven other items.
+    // The first reply that the owner put into the bell, past at most seven other items.
     pub(crate) fn reply<R: Wait>(&mut self, rt: &R) -> Option<Reply<N>> {
         for _item in 0..8 {
             let Some(item) = self.bell.take_as(rt, &mut self.from_bell) else {
@@ -64,7 +64,7 @@ impl<L: Drop, N: Naming> Ends<L, N> {
     }
 }
 
-/// A desk, a bell in a list of its own, and the other ends.
+// A desk, a bell in a list of its own, and the other ends.
 pub(crate) fn queues<L: Drop, N: Naming>(
     rt: &impl Abort,
     alloc: Global,

@@ -1,17 +1,15 @@
 //! `mum_owner`: the journal of an owner to whom a client logs in, mutes itself, is denied a channel and leaves.
 
-ghost use Rattle.std.specs.Prelude.{◌≡◌, [], false, length};
-ghost use Rattle.mum_base.specs.declared.number.TheConstants.{SLOTS as slots};
+ghost use Rattle.std.specs.Prelude.{◌≡◌, [], false};
 ghost use Rattle.mum_published.specs.Calls.{appended, latest};
 ghost use Rattle.mum_record.specs.Journal.{Each, IsWritableControl};
 
 use crate::ends::{Ends, queues};
-use crate::opening::{begin, boxes_of};
+use crate::opening::{begin, boxes};
 use mum_base::{Items, Octets, OutOfMemory};
 use mum_control::Control;
 use mum_frame::{Frame, whole_frame};
 use mum_io::{Clock, Door, DoorEvent, LinkEvent, MemClock, MemDoor, MemLink};
-use mum_outbox::PostBox;
 use mum_owner::{Owner, OwnerEnd, Serving};
 use mum_port::{DeskItem, Request};
 use mum_published::{Naming, Publisher};
@@ -25,8 +23,8 @@ use std::mem::drop;
 use std::process::Abort;
 use std::sync::Wait;
 
-/// What the client sends: its version, 1.5.0; a login, with the fields in another order and one that is not read; a
-/// mute of itself, after a field that it takes back; and a channel that it may not make.
+// What the client sends: its version, 1.5.0; a login, with the fields in another order and one that is not read; a
+// mute of itself, after a field that it takes back; and a channel that it may not make.
 const SENT: [&[u8]; 4] = [
     b"\x00\x00\x00\x00\x00\x04\x08\x80\x8a\x04",
     b"\x00\x02\x00\x00\x00\x09\x28\x01\x48\x07\x0a\x03ann",
@@ -34,7 +32,7 @@ const SENT: [&[u8]; 4] = [
     b"\x00\x07\x00\x00\x00\x05\x1a\x01x\x10\x00",
 ];
 
-/// Each command as this server writes it, and what was decided of it.
+// Each command as this server writes it, and what was decided of it.
 const JOURNAL: &str = "journal 1
 workers 1
 config -
@@ -60,7 +58,7 @@ fn request_of(
     }
 }
 
-/// The port of the connection, and the queues between its worker and the owner.
+// The port of the connection, and the queues between its worker and the owner.
 #[derive(Drop)]
 pub(crate) struct Peer<L: Drop, N: Naming> {
     session: Session,
@@ -68,7 +66,7 @@ pub(crate) struct Peer<L: Drop, N: Naming> {
 }
 
 impl<L: Drop, N: Naming> Peer<L, N> {
-    /// The port of connection 1, of worker 0, at these ends.
+    // The port of connection 1, of worker 0, at these ends.
     pub(crate) fn new(ends: Ends<L, N>) -> Peer<L, N> {
         Peer {
             session: Session::new(1, 0),
@@ -76,14 +74,14 @@ impl<L: Drop, N: Naming> Peer<L, N> {
         }
     }
 
-    /// Takes what the owner put into the bell.
+    // Takes what the owner put into the bell.
     fn hear<R: Wait>(&mut self, rt: &R) {
         if let Some(reply) = self.ends.reply(rt) {
             self.session.answered(reply.end);
         }
     }
 
-    /// Puts the command of a frame on the desk, if it is one.
+    // Puts the command of a frame on the desk, if it is one.
     fn send<R: Abort + Wait>(&mut self, rt: &R, alloc: Global, bytes: &[u8]) {
         assert!(rt;
             !self.session.awaits_reply(),
@@ -97,7 +95,7 @@ impl<L: Drop, N: Naming> Peer<L, N> {
         }
     }
 
-    /// Puts the leave on the desk, and that the port is gone.
+    // Puts the leave on the desk, and that the port is gone.
     fn leave<R: Wait>(&mut self, rt: &R) {
         let command = Command {
             connection: 1,
@@ -110,7 +108,7 @@ impl<L: Drop, N: Naming> Peer<L, N> {
     }
 }
 
-/// Sends all that the client sends, and leaves.
+// Sends all that the client sends, and leaves.
 pub(crate) fn talk<D: Door, K: Clock, N: Serving, R: Abort + Copy + Wait>(
     rt: &R,
     alloc: Global,
@@ -130,7 +128,7 @@ pub(crate) fn talk<D: Door, K: Clock, N: Serving, R: Abort + Copy + Wait>(
     }
 }
 
-/// The journal of an owner of one worker, who routed nothing.
+// The journal of an owner of one worker, who routed nothing.
 fn text_of(rt: &impl Abort, alloc: Global, entries: Vec<ControlEntry>) -> Octets
     requires { Each IsWritableControl entries.items }
 {
@@ -148,7 +146,7 @@ fn text_of(rt: &impl Abort, alloc: Global, entries: Vec<ControlEntry>) -> Octets
     text
 }
 
-/// The journal of an owner over these queues, once the client has left.
+// The journal of an owner over these queues, once the client has left.
 fn written<D: Door, K: Clock, N: Serving, R: Abort + Copy + Wait>(
     rt: &R,
     alloc: Global,
@@ -175,22 +173,21 @@ fn written<D: Door, K: Clock, N: Serving, R: Abort + Copy + Wait>(
     text_of(rt, alloc, entries)
 }
 
-/// The journal of an owner over this door, which gives one connection.
+// The journal of an owner over this door, which gives one connection.
 fn journal_named<D: Door, N: Serving, R: Abort + Copy + Wait>(
     rt: &R,
     alloc: Global,
     publisher: &mut Publisher,
     state: State,
-    boxes: Vec<PostBox>,
     door: D,
 ) -> Octets
     requires opening { publisher.old.opening ≡ N.opening }
     requires state { state ≡ latest publisher.old }
     requires fresh { appended publisher.old ≡ [] }
     requires pending { publisher.old.pending ≡ [] }
-    requires boxes { length boxes.items ≡ slots }
     requires door { record { counts = (D.facts door).counts; given = (D.facts door).given; opened_at = (D.facts door).opened_at } ≡ N.door }
 {
+    let boxes = boxes(rt, alloc);
     let control = Control::<N>::open(alloc, state, publisher, boxes).expect(rt, "memory");
     let (desk, bells, ends) = queues::<D::Conn, N>(rt, alloc);
     let peer = Peer::new(ends);
@@ -201,24 +198,22 @@ fn journal_named<D: Door, N: Serving, R: Abort + Copy + Wait>(
     }
 }
 
-/// The same, with the opening of this publisher and what the door has counted.
+// The same, with the opening of this publisher and what the door has counted.
 fn journal_at<D: Door, R: Abort + Copy + Wait>(
     rt: &R,
     alloc: Global,
     publisher: &mut Publisher,
     state: State,
-    boxes: Vec<PostBox>,
     door: D,
 ) -> Octets
     requires state { state ≡ latest publisher.old }
     requires fresh { appended publisher.old ≡ [] }
     requires pending { publisher.old.pending ≡ [] }
-    requires boxes { length boxes.items ≡ slots }
 {
-    journal_named::<D, Brand, R>(rt, alloc, publisher, state, boxes, door)
+    journal_named::<D, Brand, R>(rt, alloc, publisher, state, door)
 }
 
-/// A door that gives one connection.
+// A door that gives one connection.
 pub(crate) fn door(rt: &impl Abort, alloc: Global) -> MemDoor {
     let mut events = Vec::new(alloc);
     events.push(LinkEvent::End).expect(rt, "memory");
@@ -232,10 +227,8 @@ pub(crate) fn door(rt: &impl Abort, alloc: Global) -> MemDoor {
 fn what_was_decided_is_written_down(rt: HostRuntime) {
     let alloc: Global = rt.alloc();
     let door = door(&rt, alloc);
-    let (boxes, own) = boxes_of(&rt, alloc);
-    drop(own);
     let (mut publisher, state) = begin(&rt, alloc);
-    let journal = journal_at(&rt, alloc, &mut publisher, state, boxes, door);
+    let journal = journal_at(&rt, alloc, &mut publisher, state, door);
     publisher.finish(&rt);
     assert_eq!(rt; str::from_utf8(journal.as_slice()), Ok(JOURNAL));
 }

@@ -1,17 +1,16 @@
 //! `mum_owner`: what it offers a store while a client logs in, mutes itself, is denied a channel and leaves.
 
-ghost use Rattle.std.specs.Prelude.{◌≡◌, [], length};
-ghost use Rattle.mum_base.specs.declared.number.TheConstants.{SLOTS as slots};
+ghost use Rattle.std.specs.Prelude.{◌≡◌, []};
 ghost use Rattle.mum_published.specs.Calls.{appended, latest};
 
 use crate::ends::queues;
-use crate::opening::{begin, boxes_of};
+use crate::opening::{begin, boxes};
 use crate::owner::{Peer, door, talk};
 use mum_control::Control;
 use mum_crew::Turn;
 use mum_io::{Clock, Door, MemClock};
 use mum_keeper::StoreItem;
-use mum_outbox::{Bell, BoxPass, PostBox};
+use mum_outbox::{Bell, BoxPass};
 use mum_owner::{Owner, Serving};
 use mum_published::{Naming, Publisher};
 use mum_state::State;
@@ -21,7 +20,7 @@ use std::mem::drop;
 use std::process::Abort;
 use std::sync::Wait;
 
-/// The bell of a store, at the store.
+// The bell of a store, at the store.
 #[derive(Drop)]
 struct Ear<N: Naming> {
     bell: Bell<StoreItem<N>>,
@@ -47,12 +46,12 @@ impl<N: Naming> Ear<N> {
         Ear { bell, pass }
     }
 
-    /// Puts an item of its own.
+    // Puts an item of its own.
     fn put<R: Wait>(&mut self, rt: &R) {
         let _offered = self.bell.offer_as(rt, &mut self.pass, StoreItem::Last);
     }
 
-    /// What is next, if anything is: the revision of a note, or 0 where none comes any more.
+    // What is next, if anything is: the revision of a note, or 0 where none comes any more.
     fn next<R: Wait>(&mut self, rt: &R) -> Option<u64> {
         match self.bell.take_as(rt, &mut self.pass) {
             Some(StoreItem::Note(item)) => Some(item.note.revision()),
@@ -61,7 +60,7 @@ impl<N: Naming> Ear<N> {
         }
     }
 
-    /// All that lies there, at most this many items.
+    // All that lies there, at most this many items.
     fn all<R: Abort + Wait>(&mut self, rt: &R, alloc: Global, most: u32) -> Vec<u64> {
         let mut heard = Vec::new(alloc);
         for _item in 0..most {
@@ -73,7 +72,7 @@ impl<N: Naming> Ear<N> {
         heard
     }
 
-    /// Puts this many items of its own.
+    // Puts this many items of its own.
     fn fill<R: Wait>(&mut self, rt: &R, items: u32) {
         for _item in 0..items {
             self.put(rt);
@@ -81,8 +80,8 @@ impl<N: Naming> Ear<N> {
     }
 }
 
-/// What the store finds once the client has left, where this many other items lay in its bell before. The owner has
-/// ended only when the bell took that no note comes any more.
+// What the store finds once the client has left, where this many other items lay in its bell before. The owner has
+// ended only when the bell took that no note comes any more.
 fn heard<D: Door, K: Clock, N: Serving, R: Abort + Copy + Wait>(
     rt: &R,
     alloc: Global,
@@ -106,13 +105,12 @@ fn heard<D: Door, K: Clock, N: Serving, R: Abort + Copy + Wait>(
     ear.all(rt, alloc, 8)
 }
 
-/// The same of an owner over this door, which gives one connection.
+// The same of an owner over this door, which gives one connection.
 fn heard_named<D: Door, N: Serving, R: Abort + Copy + Wait>(
     rt: &R,
     alloc: Global,
     publisher: &mut Publisher,
     state: State,
-    boxes: Vec<PostBox>,
     door: D,
     others: u32,
 ) -> Vec<u64>
@@ -120,9 +118,9 @@ fn heard_named<D: Door, N: Serving, R: Abort + Copy + Wait>(
     requires state { state ≡ latest publisher.old }
     requires fresh { appended publisher.old ≡ [] }
     requires pending { publisher.old.pending ≡ [] }
-    requires boxes { length boxes.items ≡ slots }
     requires door { record { counts = (D.facts door).counts; given = (D.facts door).given; opened_at = (D.facts door).opened_at } ≡ N.door }
 {
+    let boxes = boxes(rt, alloc);
     let control = Control::<N>::open(alloc, state, publisher, boxes).expect(rt, "memory");
     let (desk, bells, ends) = queues::<D::Conn, N>(rt, alloc);
     let mut bell = Bell::new(alloc).expect(rt, "memory");
@@ -145,31 +143,27 @@ fn heard_named<D: Door, N: Serving, R: Abort + Copy + Wait>(
     }
 }
 
-/// The same, with the opening of this publisher and what the door has counted.
+// The same, with the opening of this publisher and what the door has counted.
 fn heard_at<D: Door, R: Abort + Copy + Wait>(
     rt: &R,
     alloc: Global,
     publisher: &mut Publisher,
     state: State,
-    boxes: Vec<PostBox>,
     door: D,
     others: u32,
 ) -> Vec<u64>
     requires state { state ≡ latest publisher.old }
     requires fresh { appended publisher.old ≡ [] }
     requires pending { publisher.old.pending ≡ [] }
-    requires boxes { length boxes.items ≡ slots }
 {
-    heard_named::<D, Brand, R>(rt, alloc, publisher, state, boxes, door, others)
+    heard_named::<D, Brand, R>(rt, alloc, publisher, state, door, others)
 }
 
-/// What a store hears in whose bell this many other items lay.
+// What a store hears in whose bell this many other items lay.
 fn heard_behind<R: Abort + Copy + Wait>(rt: &R, alloc: Global, others: u32) -> Vec<u64> {
     let door = door(rt, alloc);
-    let (boxes, own) = boxes_of(rt, alloc);
-    drop(own);
     let (mut publisher, state) = begin(rt, alloc);
-    let items = heard_at(rt, alloc, &mut publisher, state, boxes, door, others);
+    let items = heard_at(rt, alloc, &mut publisher, state, door, others);
     publisher.finish(rt);
     items
 }

@@ -8,24 +8,24 @@ use mum_io::Clock;
 use std::alloc::Global;
 use std::process::Abort;
 
-/// Whoever is there may ban.
+// Whoever is there may ban.
 const CONFIGURATION: &str =
     "{\"workers\":2,\"channels\":[{\"id\":0,\"acls\":[{\"group\":\"all\",\"grant\":131072}]}]}";
 
-/// A list with one ban, for a minute, of the address that all clients have.
+// A list with one ban, for a minute, of the address that all clients have.
 const ONE_BAN: &[u8] = &[
     0, 10, 0, 0, 0, 25, 10, 23, 10, 16, 0, 0, 0, 0, 0, 0, 0, 0, 0, 0, 0, 0, 0, 0, 0, 0, 16, 128, 1,
     56, 60,
 ];
 
-/// Asks for the list.
+// Asks for the list.
 const QUERY: &[u8] = &[0, 10, 0, 0, 0, 2, 16, 1];
 
-/// When the clock is asked: at the first login, at the list, at the query, and at two more logins, between which the ban
-/// ends. Nobody asks for the last moment.
+// When the clock is asked: at the first login, at the list, at the query, and at two more logins, between which the ban
+// ends. Nobody asks for the last moment.
 const MOMENTS: [u64; 6] = [990, 1000, 1010, 1059, 1060, 2000];
 
-/// Sets the bans, and stays until the third one is there.
+// Sets the bans, and stays until the third one is there.
 const BANNER: [Act; 7] = [
     Act::LogIn(100),
     Act::Hear(SERVER_SYNC),
@@ -36,10 +36,10 @@ const BANNER: [Act; 7] = [
     Act::Meet(2),
 ];
 
-/// Logs in while the ban is living.
+// Logs in while the ban is living.
 const BANNED: [Act; 3] = [Act::Meet(1), Act::LogIn(1), Act::Stay];
 
-/// Logs in afterwards.
+// Logs in afterwards.
 const LATER: [Act; 5] = [
     Act::Meet(1),
     Act::Outlive(1),
@@ -56,7 +56,7 @@ fn clients(rt: &impl Abort, alloc: Global) -> Lobby {
     lobby
 }
 
-/// Compares what was served, and how many Rejects and ServerSyncs each client was sent.
+// Compares what was served, and how many Rejects and ServerSyncs each client was sent.
 fn compare(rt: &impl Abort, outcome: Outcome<Lobby>) {
     let line = "served connections 3 accepted 4 ";
     assert!(rt;
@@ -76,7 +76,7 @@ fn compare(rt: &impl Abort, outcome: Outcome<Lobby>) {
     drop(outcome);
 }
 
-/// Compares how often the clock was asked, which is handed back: the next moment is the last one.
+// Compares how often the clock was asked, which is handed back: the next moment is the last one.
 fn compare_clock(rt: &impl Abort, outcome: &mut Outcome<Lobby>) {
     let clock = outcome.clock.as_mut().expect(rt, "no clock");
     assert_eq!(rt; clock.now(), 2000);

@@ -1,6 +1,6 @@
 //! What a client was written.
 
-/// The types of frames below this number are counted.
+// The types of frames below this number are counted.
 const TYPES: usize = 32;
 
 const HEADER_LENGTH: usize = 6;

@@ -12,10 +12,10 @@ use std::sync::Wait;
 use std::thread::Threads;
 use std::time::Clock;
 
-/// The words of a run that keeps a journal of one connection.
+// The words of a run that keeps a journal of one connection.
 const WORDS: [&str; 4] = ["serve", "x", "1", "journal"];
 
-/// A run that keeps a journal, over a door with this first event. The writes of these numbers to the output fail.
+// A run that keeps a journal, over a door with this first event. The writes of these numbers to the output fail.
 fn journal_of<X>(rt: X, alloc: Global, event: DoorEvent, failing: &[u64]) -> Outcome<MemDoor>
 where
     X: Abort + Clock + Copy + Send + Sync + Threads + Wait,
@@ -25,7 +25,7 @@ where
     ran_with(&rt, alloc, &WORDS, "", failing, door, &mut crew)
 }
 
-/// Where the line of the totals begins, which is the last.
+// Where the line of the totals begins, which is the last.
 fn totals_at(output: &str) -> usize {
     let bytes = output.as_bytes();
     let mut at = 0;
@@ -37,7 +37,7 @@ fn totals_at(output: &str) -> usize {
     at
 }
 
-/// What an audit finds of the output of a run without the line of the totals.
+// What an audit finds of the output of a run without the line of the totals.
 fn audit<X>(rt: X, alloc: Global, output: &str) -> Outcome<MemDoor>
 where
     X: Abort + Clock + Copy + Send + Sync + Threads + Wait,
@@ -48,7 +48,7 @@ where
     ran_with(&rt, alloc, &["audit"], journal, &[], door, &mut crew)
 }
 
-/// Compares what an audit finds of the output of a run.
+// Compares what an audit finds of the output of a run.
 fn compare_audit<X>(rt: X, alloc: Global, output: &str, line: &str)
 where
     X: Abort + Clock + Copy + Send + Sync + Threads + Wait,
@@ -59,7 +59,7 @@ where
     drop(audit);
 }
 
-/// What is written of a connection: its control entries, the cause of its end, the accepted edits.
+// What is written of a connection: its control entries, the cause of its end, the accepted edits.
 fn journal(rt: &impl Abort, alloc: Global, controls: &str, cause: &str, accepted: u64) -> String {
     let journal = format!(in alloc;
         "journal 2\nworkers 4\nlimits 512 2048\nconfig -\n{controls}worker 0\nx 1 {cause}\nworker 1\nworker 2\nworker 3\nend\nserved connections 1 accepted {accepted} looks 0 copies 0 full 0 stale 0\n"
@@ -67,7 +67,7 @@ fn journal(rt: &impl Abort, alloc: Global, controls: &str, cause: &str, accepted
     journal.expect(rt, "memory")
 }
 
-/// The line of an audit of this many control entries.
+// The line of an audit of this many control entries.
 fn legal(rt: &impl Abort, alloc: Global, controls: u64) -> String {
     let line = format!(in alloc; "legal controls {controls} voices 0 copies 0 full 0\n");
     line.expect(rt, "memory")
@@ -152,14 +152,14 @@ fn a_link_closes_for_its_cause(rt: HostRuntime) {
     }
 }
 
-/// The journal of a login and of a packet that its speaker hears.
+// The journal of a login and of a packet that its speaker hears.
 const HEARD: &str =
     "journal 2\nworkers 4\nlimits 512 2048\nconfig -\nc 1 - 0002000000050a03616e6e accepted 1\nc 1 - leave accepted 2\nworker 0\nv 1 1 9f0103aabbcc 1 1/0/s\nx 1 end\nworker 1\nworker 2\nworker 3\nend\n";
 
 const HEARD_TOTALS: &str = "served connections 1 accepted 2 looks 1 copies 1 full 0 stale 0\n";
 
-/// Compares what is written of a login and a packet, where the writes of these numbers to the output fail, the status
-/// and what is said.
+// Compares what is written of a login and a packet, where the writes of these numbers to the output fail, the status
+// and what is said.
 fn compare_heard<X>(rt: X, alloc: Global, failing: &[u64], output: &str, status: u8, said: &str)
 where
     X: Abort + Clock + Copy + Send + Sync + Threads + Wait,
@@ -195,7 +195,7 @@ fn a_door_that_fails_at_once(rt: HostRuntime) {
     drop(outcome);
 }
 
-/// The first of three clients ends before it takes what the second says, and the third gets its slot.
+// The first of three clients ends before it takes what the second says, and the third gets its slot.
 fn successors(rt: &impl Abort, alloc: Global) -> Lobby {
     let mut lobby = Lobby::new(rt, alloc);
     lobby.invite_with(rt, &[Act::LogIn(0), Act::Hear(SERVER_SYNC), Act::Meet(1)]);
@@ -222,7 +222,7 @@ fn successors(rt: &impl Abort, alloc: Global) -> Lobby {
     lobby
 }
 
-/// A run that keeps a journal of the three, whose roles have their turns in the order of this list.
+// A run that keeps a journal of the three, whose roles have their turns in the order of this list.
 fn succeeded<X>(rt: X, alloc: Global, list: Vec<u8>) -> Outcome<Lobby>
 where
     X: Abort + Clock + Copy + Send + Sync + Threads + Wait,
@@ -233,7 +233,7 @@ where
     ran_with(&rt, alloc, &words, "", &[], lobby, &mut crew)
 }
 
-/// Compares the totals, and that nobody was written the packet.
+// Compares the totals, and that nobody was written the packet.
 fn compare_stale(rt: &impl Abort, outcome: &Outcome<Lobby>) {
     let line = "served connections 3 accepted 6 looks 1 copies 1 full 0 stale 1\n";
     let output = outcome.output();

@@ -13,21 +13,21 @@ use std::sync::Wait;
 use std::thread::Threads;
 use std::time::Clock;
 
-/// The line of the totals of somebody who logs in and is heard once.
+// The line of the totals of somebody who logs in and is heard once.
 const HEARD: &str = "served connections 1 accepted 2 looks 1 copies 1 full 0 stale 0\n";
 
-/// Somebody who logs in and speaks to itself.
+// Somebody who logs in and speaks to itself.
 fn somebody(rt: &impl Abort, alloc: Global) -> MemDoor {
     let link = link(rt, alloc, &[ANN, LOOPBACK], LinkEvent::End, &[]);
     door_of(rt, alloc, DoorEvent::Conn(link))
 }
 
-/// A keeper without rows whose calls of these numbers fail.
+// A keeper without rows whose calls of these numbers fail.
 fn keeper(rt: &impl Abort, alloc: Global, failing: &[u64]) -> MapKeeper {
     MapKeeper::new(alloc, Vec::from_slice(alloc, failing).expect(rt, "memory"))
 }
 
-/// The row of a channel of this number below the root, without a policy.
+// The row of a channel of this number below the root, without a policy.
 fn row(rt: &impl Abort, alloc: Global, id: u32) -> KeptChannel {
     KeptChannel {
         id: ChannelId(id),

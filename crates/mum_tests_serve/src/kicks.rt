@@ -15,18 +15,18 @@ use std::process::Abort;
 pub const CONFIGURATION: &str =
     "{\"workers\":3,\"channels\":[{\"id\":0,\"acls\":[{\"group\":\"all\",\"grant\":65536}]}]}";
 
-/// How many users are kicked, one after another. With each of them somebody logs in one read later than with the one
-/// before.
+// How many users are kicked, one after another. With each of them somebody logs in one read later than with the one
+// before.
 const KICKS: u8 = 40;
 
-/// How often clients have come to a meeting when the pair of this number begins.
+// How often clients have come to a meeting when the pair of this number begins.
 fn begins(pair: u8) -> u64
     ensures { result ≤ 766 }
 {
     1 + 3 * u64::from(pair)
 }
 
-/// Kicks the first user of each pair, and waits until the second one has left too.
+// Kicks the first user of each pair, and waits until the second one has left too.
 fn kicker(rt: &impl Abort, alloc: Global) -> Vec<Act> {
     let mut acts = Vec::new(alloc);
     let first = [Act::LogIn(100), Act::Hear(SERVER_SYNC), Act::Come];
@@ -45,7 +45,7 @@ fn kicker(rt: &impl Abort, alloc: Global) -> Vec<Act> {
     acts
 }
 
-/// Logs in, and is kicked. One who is deaf takes nothing from then on until the other one of the pair is there.
+// Logs in, and is kicked. One who is deaf takes nothing from then on until the other one of the pair is there.
 fn kicked(pair: u8, is_deaf: bool) -> [Act; 6] {
     let until = if is_deaf { begins(pair) + 2 } else { 0 };
     [
@@ -58,7 +58,7 @@ fn kicked(pair: u8, is_deaf: bool) -> [Act; 6] {
     ]
 }
 
-/// Logs in this many reads after the first one of the pair, and stays for a while.
+// Logs in this many reads after the first one of the pair, and stays for a while.
 fn newcomer(pair: u8, reads: u32) -> [Act; 6] {
     [
         Act::Meet(begins(pair) + 1),
@@ -80,8 +80,8 @@ fn clients(rt: &impl Abort, alloc: Global, are_deaf: bool) -> Lobby {
     lobby
 }
 
-/// Whether it was told all that there was when it came: the two users who were there, or also the one who was still
-/// to be kicked.
+// Whether it was told all that there was when it came: the two users who were there, or also the one who was still
+// to be kicked.
 fn is_whole(newcomer: Option<Heard>) -> bool {
     let Some(heard) = newcomer else {
         return false;
@@ -93,7 +93,7 @@ fn is_whole(newcomer: Option<Heard>) -> bool {
     heard.is_through && first && last && removed < 2 && users.checked_sub(removed) == Some(2)
 }
 
-/// Whether it was there until it was closed, and was not told twice that it was removed.
+// Whether it was there until it was closed, and was not told twice that it was removed.
 fn is_kicked(user: Option<Heard>) -> bool {
     let Some(heard) = user else {
         return false;
@@ -101,7 +101,7 @@ fn is_kicked(user: Option<Heard>) -> bool {
     heard.frames(SERVER_SYNC) == 1 && heard.frames(USER_REMOVE) < 2 && !heard.is_through
 }
 
-/// The first pair of which one was not told what it should have been.
+// The first pair of which one was not told what it should have been.
 fn first_wrong(lobby: &Lobby) -> Option<u8> {
     for pair in 0..KICKS {
         let place = 1 + 2 * usize::from(pair);
@@ -114,7 +114,7 @@ fn first_wrong(lobby: &Lobby) -> Option<u8> {
     None
 }
 
-/// Whether the one who was kicked long before somebody else logged in was told so.
+// Whether the one who was kicked long before somebody else logged in was told so.
 fn is_last_told(lobby: &Lobby) -> bool {
     match lobby.heard(2 * usize::from(KICKS) - 1) {
         Some(heard) => heard.frames(USER_REMOVE) == 1,
@@ -122,7 +122,7 @@ fn is_last_told(lobby: &Lobby) -> bool {
     }
 }
 
-/// Compares what was served, and what each client was told.
+// Compares what was served, and what each client was told.
 fn compare(rt: &impl Abort, outcome: Outcome<Lobby>, are_deaf: bool) {
     let line = "served connections 81 accepted 162 looks 0 copies 0 full 0 stale ";
     assert!(rt; outcome.output().starts_with(line));

@@ -7,13 +7,13 @@ use crate::run::{Outcome, ran_by_turns, turns};
 use std::alloc::Global;
 use std::process::Abort;
 
-/// How many clients read nothing, and log in later.
+// How many clients read nothing, and log in later.
 const CLIENTS: u8 = 7;
 
-/// The most parcels that a post box holds.
+// The most parcels that a post box holds.
 const CAPACITY: u32 = 8192;
 
-/// Changes itself as often as a post box has places, once those who read nothing are there.
+// Changes itself as often as a post box has places, once those who read nothing are there.
 fn changer(rt: &impl Abort, alloc: Global) -> Vec<Act> {
     let mut acts = Vec::new(alloc);
     let first = [Act::LogIn(CLIENTS), Act::Meet(7)];
@@ -27,7 +27,7 @@ fn changer(rt: &impl Abort, alloc: Global) -> Vec<Act> {
     acts
 }
 
-/// Takes nothing that is written, and stays.
+// Takes nothing that is written, and stays.
 fn deaf(user: u8) -> [Act; 4] {
     [
         Act::BeDeaf(u64::MAX),
@@ -37,7 +37,7 @@ fn deaf(user: u8) -> [Act; 4] {
     ]
 }
 
-/// Logs in once those who read nothing are gone, and asks whether it is heard.
+// Logs in once those who read nothing are gone, and asks whether it is heard.
 fn newcomer(user: u8) -> [Act; 8] {
     [
         Act::Outlive(7),
@@ -63,7 +63,7 @@ fn clients(rt: &impl Abort, alloc: Global) -> Lobby {
     lobby
 }
 
-/// Compares what was served: the one who changes and all who came later were heard to their end.
+// Compares what was served: the one who changes and all who came later were heard to their end.
 fn compare(rt: &impl Abort, outcome: Outcome<Lobby>) {
     let line = "served connections 15 accepted 8222 looks 0 copies 0 full 0 stale ";
     assert!(rt;

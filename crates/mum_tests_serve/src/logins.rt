@@ -8,12 +8,12 @@ use mum_io::{DoorEvent, LinkEvent, MemDoor};
 use std::alloc::Global;
 use std::process::Abort;
 
-/// A client that sends these pieces, and then ends.
+// A client that sends these pieces, and then ends.
 fn client(rt: &impl Abort, alloc: Global, pieces: &[&[u8]]) -> DoorEvent {
     DoorEvent::Conn(link(rt, alloc, pieces, LinkEvent::End, &[]))
 }
 
-/// Compares the status, what was written and what was said. The door is back.
+// Compares the status, what was written and what was said. The door is back.
 fn compare(rt: &impl Abort, outcome: Outcome<MemDoor>, status: u8, output: &str, errors: &str) {
     assert_eq!(rt; outcome.output(), output);
     assert_eq!(rt; outcome.errors(), errors);
@@ -42,7 +42,7 @@ fn a_fault_has_its_status_and_its_line(rt: HostRuntime) {
     }
 }
 
-/// A door that gives a client, fails, and has one more.
+// A door that gives a client, fails, and has one more.
 fn failing_door(rt: &impl Abort, alloc: Global) -> MemDoor {
     let mut events = Vec::new(alloc);
     events
@@ -99,10 +99,10 @@ fn one_connection(rt: HostRuntime) {
     }
 }
 
-/// How many clients log in, one after another.
+// How many clients log in, one after another.
 const LOGINS: u8 = 130;
 
-/// Logs in once those before it have left, and hears itself.
+// Logs in once those before it have left, and hears itself.
 fn visitor(user: u8) -> [Act; 5] {
     [
         Act::Outlive(u64::from(user)),

@@ -7,13 +7,13 @@ use crate::run::{Outcome, ran_by_turns, turns};
 use std::alloc::Global;
 use std::process::Abort;
 
-/// How many users there are. Each change of one is told to all of them.
+// How many users there are. Each change of one is told to all of them.
 const USERS: u8 = 128;
 
-/// More notices than these never wait to be posted when a command is taken.
+// More notices than these never wait to be posted when a command is taken.
 const PENDING: u64 = 16_384;
 
-/// Logs in, waits until all have been told of all, and changes itself twice.
+// Logs in, waits until all have been told of all, and changes itself twice.
 fn changer(user: u8) -> [Act; 12] {
     let all = u64::from(USERS);
     [
@@ -40,14 +40,14 @@ fn changers(rt: &impl Abort, alloc: Global) -> Lobby {
     lobby
 }
 
-/// Many turns of the owner, and one of each worker, again and again.
+// Many turns of the owner, and one of each worker, again and again.
 fn owner_first(rt: &impl Abort, alloc: Global) -> Vec<u8> {
     let mut pattern = [0; 68];
     pattern[64..].copy_from_slice(&[1, 2, 3, 4]);
     turns(rt, alloc, &pattern, 4000)
 }
 
-/// Compares what was served, and how many messages were owed.
+// Compares what was served, and how many messages were owed.
 fn compare(rt: &impl Abort, outcome: Outcome<Lobby>) {
     let line = "served connections 128 accepted 512 looks 0 copies 0 full 0 stale 0\n";
     assert_eq!(rt; outcome.output(), line);

@@ -70,7 +70,7 @@ impl<D: Drop> Outcome<D> {
     }
 }
 
-/// A list of words.
+// A list of words.
 fn owned(rt: &impl Abort, alloc: Global, words: &[&str]) -> Vec<String> {
     let mut list = Vec::new(alloc);
     for word in words {
@@ -122,7 +122,7 @@ pub fn ran_keeping<R: Abort + Copy + Send + Wait, D: TestDoor, C: Crew>(
     ran_by(rt, alloc, words, "", &[], doors, &[], keeper, crew)
 }
 
-/// Runs these words with a clock that answers these moments, and then the last of them, and with a keeper.
+// Runs these words with a clock that answers these moments, and then the last of them, and with a keeper.
 fn ran_by<R: Abort + Copy + Send + Wait, D: Door + Send, C: Crew>(
     rt: &R,
     alloc: Global,

@@ -8,7 +8,7 @@ use crate::run::{Outcome, add_turns, ran_by_turns, turns};
 use std::alloc::Global;
 use std::process::Abort;
 
-/// Kicks the next one, and stays until all others are gone.
+// Kicks the next one, and stays until all others are gone.
 const KICKER: [Act; 9] = [
     Act::LogIn(100),
     Act::Hear(SERVER_SYNC),
@@ -21,7 +21,7 @@ const KICKER: [Act; 9] = [
     Act::Pause(60),
 ];
 
-/// Is kicked, and takes nothing from then on.
+// Is kicked, and takes nothing from then on.
 const KICKED: [Act; 6] = [
     Act::Meet(1),
     Act::LogIn(1),
@@ -31,7 +31,7 @@ const KICKED: [Act; 6] = [
     Act::Stay,
 ];
 
-/// Logs in where the slot is not free yet, and then its link fails.
+// Logs in where the slot is not free yet, and then its link fails.
 const STRAY: [Act; 5] = [
     Act::Meet(3),
     Act::Break(6),
@@ -48,14 +48,14 @@ fn clients(rt: &impl Abort, alloc: Global) -> Lobby {
     lobby
 }
 
-/// Rounds until the one is there and kicked; then its worker is starved for a while.
+// Rounds until the one is there and kicked; then its worker is starved for a while.
 fn list(rt: &impl Abort, alloc: Global) -> Vec<u8> {
     let mut list = turns(rt, alloc, &[0, 1, 2, 3], 60);
     add_turns(rt, &mut list, &[0, 1, 3], 600);
     list
 }
 
-/// Compares what was served, and what the kicker was told: of no third user.
+// Compares what was served, and what the kicker was told: of no third user.
 fn compare(rt: &impl Abort, outcome: Outcome<Lobby>) {
     let line = "served connections 3 accepted 4 ";
     assert!(rt;

@@ -9,7 +9,7 @@ use std::process::Abort;
 
 const CLIENTS: u8 = 20;
 
-/// Logs in, speaks this many packets once all are there, and stays until it heard what the others spoke.
+// Logs in, speaks this many packets once all are there, and stays until it heard what the others spoke.
 fn talker(rt: &impl Abort, alloc: Global, user: u8, packets: u64) -> Vec<Act> {
     let all = u64::from(CLIENTS);
     let first = [
@@ -36,7 +36,7 @@ fn talkers(rt: &impl Abort, alloc: Global, packets: u64) -> Lobby {
     lobby
 }
 
-/// The line of a run in which each client spoke this many packets, and this many copies were heard.
+// The line of a run in which each client spoke this many packets, and this many copies were heard.
 fn line(rt: &impl Abort, alloc: Global, packets: u64, heard: u64) -> String {
     let all = u64::from(CLIENTS);
     let looks = all.saturating_mul(packets);
@@ -47,7 +47,7 @@ fn line(rt: &impl Abort, alloc: Global, packets: u64, heard: u64) -> String {
     line.expect(rt, "memory")
 }
 
-/// Compares what was copied with what was heard, and whether boxes were full.
+// Compares what was copied with what was heard, and whether boxes were full.
 fn compare(rt: &impl Abort, alloc: Global, outcome: Outcome<Lobby>, packets: u64, is_full: bool) {
     let heard = outcome.door(rt).frames(VOICE);
     let line = line(rt, alloc, packets, heard);

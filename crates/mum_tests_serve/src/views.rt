@@ -10,14 +10,14 @@ use std::sync::Wait;
 use std::thread::Threads;
 use std::time::Clock;
 
-/// The line of the totals of one connection that did nothing.
+// The line of the totals of one connection that did nothing.
 const SERVED: &str = "served connections 1 accepted 0 looks 0 copies 0 full 0 stale 0\n";
 
-/// The view of a server of which nothing is known yet.
+// The view of a server of which nothing is known yet.
 const NOBODY: &str =
     "{\"channels\":[{\"id\":0,\"links\":[],\"name\":\"Root\",\"parent\":null,\"temporary\":false}],\"revision\":0,\"users\":[]}\n";
 
-/// A door that gives one link, which ends after these pieces and whose writes of these numbers fail.
+// A door that gives one link, which ends after these pieces and whose writes of these numbers fail.
 fn one_link(rt: &impl Abort, alloc: Global, pieces: &[&[u8]], failing: &[u64]) -> MemDoor {
     door_of(
         rt,
@@ -26,7 +26,7 @@ fn one_link(rt: &impl Abort, alloc: Global, pieces: &[&[u8]], failing: &[u64]) -
     )
 }
 
-/// Runs these words over two doors on the calling thread.
+// Runs these words over two doors on the calling thread.
 fn ran_over_turns<X>(
     rt: X,
     alloc: Global,
@@ -40,7 +40,7 @@ where
     ran_over(&rt, alloc, words, "", &[], doors, &mut crew)
 }
 
-/// What was written to the only link of the door of the views.
+// What was written to the only link of the door of the views.
 fn written<'a>(rt: &impl Abort, outcome: &'a Outcome<MemDoor>) -> &'a [u8] {
     match outcome.view(rt).written(0) {
         Some(bytes) => bytes.as_slice(),
@@ -48,7 +48,7 @@ fn written<'a>(rt: &impl Abort, outcome: &'a Outcome<MemDoor>) -> &'a [u8] {
     }
 }
 
-/// What is written behind the totals.
+// What is written behind the totals.
 fn last_line<'a>(rt: &impl Abort, outcome: &'a Outcome<MemDoor>) -> &'a str {
     outcome
         .output()

@@ -1,31 +1,8 @@
--- What a change leaves is a tree only where nothing stands against it.
-use Rattle.std.proofs.Common.{◌≡◌, ◌≢◌, ℕ, zero, suc, ◌<◌, ◌≤◌, ◌+◌, ◌&&◌, Bool, true, false, not, cond, eqb, leb, List, [], ◌∷◌, ◌++◌, length, get_or, Some, None, refl, arith, ap, sym, ◌∙◌, subst, ⊎_elim, length-append}
-use Rattle.std.specs.Prelude.{◌↔◌}
-use Rattle.std.specs.List.{Contains, filter, list_any}
-use Rattle.std.specs.Option.{is_some}
-use Rattle.std.proofs.lemmas.Bool.{and_parts, both_ways, cases_Bool, eq-eqb, eqb-true, ne_eqb}
-use Rattle.std.proofs.lemmas.Bool.Decides.{nat_tests}
-use Rattle.std.proofs.lemmas.List.{get_or_append_left, get_or-append-add, length-reverse}
-use Rattle.std.proofs.lemmas.List.Folds.{list_any_none}
-use Rattle.std.proofs.lemmas.Slice.Eq.{bytes_eq-Decides}
-use Rattle.mum_base.specs.declared.number.ChannelId.{ChannelId}
-use Rattle.mum_tree.specs.declared.channel.Row.{Row}
-use Rattle.mum_tree.specs.declared.fault.TreeFault.{TreeFault}
-use Rattle.mum_tree.specs.declared.fault.TreeFault.TheVariants.{NoChannel, SameName, TemporaryParent, Nesting, Count, RootFixed}
-use Rattle.mum_tree.specs.Places.{least_place}
-use Rattle.mum_tree.specs.Proper.{AreApart, IsProper}
-use Rattle.mum_tree.specs.Refusals.{fault_of_add, fault_of_remove, is_full}
-use Rattle.mum_tree.specs.Rows.{number, row_of, is_there, is_temporary, is_below, is_taken, has_name_beside, path, upward}
-use Rattle.mum_tree.specs.State.{TreeState, new_row, plain_info, with_new, without_subtree}
-use Rattle.mum_tree.proofs.Changed.{number_found}
-use Rattle.mum_tree.proofs.Depths.{upward_within}
-use Rattle.mum_tree.proofs.Edits.{added_proper, none_stands}
-use Rattle.mum_tree.proofs.Find.{row_of_none}
-use Rattle.mum_tree.proofs.Grown.{kind_kept, none_is_some, old_parents, row_of_last}
-use Rattle.mum_tree.proofs.Shrunk.{is_top, links_left, list_any-reverse, shrunk_proper, stays, there_after}
-use Rattle.mum_tree.proofs.Upward.{the_root, none_contained, option_cases, lead_parent, there_from_lead, upward_kept, upward_more, upward_root, upward_zero}
+-- What a change leaves is a tree only where nothing forbids it.
+use Rattle.mum_tree.proofs.Common.{◌≡◌, ◌≢◌, ℕ, zero, suc, ◌<◌, ◌≤◌, ◌+◌, ◌&&◌, Bool, true, false, not, cond, eqb, leb, List, [], ◌∷◌, ◌++◌, length, get_or, Some, None, refl, arith, ap, sym, ◌∙◌, subst, ⊎_elim, length-append, ◌↔◌, Contains, filter, list_any, is_some, and_parts, both_ways, cases_Bool, eq-eqb, eqb-true, ne_eqb, nat_tests, get_or_append_left, get_or-append-add, length-reverse, list_any_none, bytes_eq-Decides, ChannelId, Row, TreeFault, NoChannel, SameName, TemporaryParent, Nesting, Count, RootFixed, least_place, AreApart, IsProper, fault_of_add, fault_of_remove, is_full, number, row_of, is_there, is_temporary, is_below, is_taken, has_name_beside, path, upward, TreeState, new_row, plain_info, with_new, without_subtree}
+use Rattle.mum_tree.proofs.{Changed.number_found, Depths.upward_within, Edits.added_proper, Edits.none_stands, Find.row_of_none, Grown.kind_kept, Grown.none_is_some, Grown.old_parents, Grown.row_of_last, Shrunk.is_top, Shrunk.links_left, Shrunk.list_any-reverse, Shrunk.shrunk_proper, Shrunk.stays, Shrunk.there_after, Upward.the_root, Upward.none_contained, Upward.option_cases, Upward.lead_parent, Upward.there_from_lead, Upward.upward_kept, Upward.upward_more, Upward.upward_root, Upward.upward_zero}
 
--- where none of five causes stands, none is named
+-- where none of five causes applies, none is named
 pub five : (a b c d e : Bool) (f g h i j : TreeFault) → a ≡ false → b ≡ false → c ≡ false → d ≡ false → e ≡ false → cond a (Some f) (cond b (Some g) (cond c (Some h) (cond d (Some i) (cond e (Some j) None)))) ≡ None
 five a b c d e f g h i j p q r s t =
     ap (λ (x : Bool). cond x (Some f) (cond b (Some g) (cond c (Some h) (cond d (Some i) (cond e (Some j) None))))) p
@@ -95,14 +72,14 @@ added_back tree id parent name temporary proper above after =
     plus_zero : (n : ℕ) → n ≡ n + 0
     plus_zero n = omega arith
 
--- with a new channel a tree is a tree exactly where nothing stands against it
+-- with a new channel a tree is a tree exactly where nothing forbids it
 pub adds_both_ways : (tree : TreeState) (id parent : ChannelId) (name : List ℕ) (temporary : Bool) → IsProper tree → tree.greatest < id.0 → (fault_of_add tree id parent name ≡ None) ↔ IsProper (with_new tree id parent name temporary)
 adds_both_ways tree id parent name temporary proper above = (
   λ allowed. (added_proper tree (least_place tree.channels) id parent name name temporary plain_info proper above allowed refl refl refl).1,
   added_back tree id parent name temporary proper above,
 )
 
--- without a channel and all below it a tree is a tree exactly where nothing stands against it
+-- without a channel and all below it a tree is a tree exactly where nothing forbids it
 pub removes_both_ways : (tree : TreeState) (id : ChannelId) → IsProper tree → is_there tree.channels id ≡ true → (fault_of_remove tree id ≡ None) ↔ IsProper (without_subtree tree id)
 removes_both_ways tree id proper there = (
   λ allowed.

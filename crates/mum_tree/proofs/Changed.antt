@@ -1,22 +1,6 @@
 -- A change of one channel that keeps its number and place.
-use Rattle.std.proofs.Common.{◌≡◌, ◌≢◌, ℕ, zero, suc, ◌<◌, ◌≤◌, Bool, true, false, cond, eqb, List, [], ◌∷◌, length, get_or, set, map, Option, Some, None, refl, arith, ap, sym, ◌∙◌, subst, ⊎_elim}
-use Rattle.std.specs.Bool.{IsTrue}
-use Rattle.std.specs.List.{All, AllPairs, Contains, list_any}
-use Rattle.std.specs.Option.{option_map, option_map_or, is_some}
-use Rattle.std.proofs.lemmas.Bool.{eqb-true, eq-eqb, ne_eqb, cases_Bool, cond_both, or_parts, and_from, not_from_false}
-use Rattle.std.proofs.lemmas.List.{get_or-map, length-map}
-use Rattle.std.proofs.lemmas.List.Elements.{All-map, All-weaker}
-use Rattle.std.proofs.lemmas.Option.{same_Some}
-use Rattle.std.proofs.lemmas.Slice.Eq.{bytes_eq-Decides}
-use Rattle.mum_base.specs.declared.number.ChannelId.{ChannelId}
-use Rattle.mum_tree.specs.declared.channel.Channel.{Channel}
-use Rattle.mum_tree.specs.declared.channel.Row.{Row}
-use Rattle.mum_tree.specs.Rows.{number, row_of, is_there, is_temporary, has_name_beside, Rise}
-use Rattle.mum_tree.specs.Proper.{AreApart, IsProper, IsUnderLasting, LeadUp}
-use Rattle.mum_tree.specs.State.{TreeState, changed}
-use Rattle.mum_tree.proofs.Find.{AllPairs-tail}
-use Rattle.mum_tree.proofs.Upward.{the_root, KeepParents, upward_kept}
-use Rattle.mum_tree.proofs.Joined.{links_kept}
+use Rattle.mum_tree.proofs.Common.{◌≡◌, ◌≢◌, ℕ, zero, suc, ◌<◌, ◌≤◌, Bool, true, false, cond, eqb, List, [], ◌∷◌, length, get_or, set, map, Option, Some, None, refl, arith, ap, sym, ◌∙◌, subst, ⊎_elim, IsTrue, All, AllPairs, Contains, list_any, option_map, option_map_or, is_some, eqb-true, eq-eqb, ne_eqb, cases_Bool, cond_both, or_parts, and_from, not_from_false, get_or-map, length-map, All-map, All-weaker, same_Some, bytes_eq-Decides, ChannelId, Channel, Row, number, row_of, is_there, is_temporary, has_name_beside, Rise, AreApart, IsProper, IsUnderLasting, LeadUp, TreeState, changed}
+use Rattle.mum_tree.proofs.{Find.AllPairs-tail, Upward.the_root, Upward.KeepParents, Upward.upward_kept, Joined.links_kept}
 
 -- the row that is found has the number
 pub number_found : (rows : List Row) (id : ChannelId) (row : Row) → row_of rows id ≡ Some row → number row ≡ id.0

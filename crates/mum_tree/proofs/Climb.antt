@@ -1,16 +1,6 @@
 -- How many steps a channel is under another, by the way up.
-use Rattle.std.proofs.Common.{◌≡◌, ◌≢◌, ℕ, zero, suc, ◌<◌, ◌+◌, ◌-◌, ◌≤◌, ◌||◌, Bool, true, false, cond, eqb, ltb, List, [], ◌∷◌, Option, Some, None, length, reverse, refl, arith, ap, sym, ◌∙◌, ⊎_elim}
-use Rattle.std.specs.List.{Contains, list_any, position, position_or_len}
-use Rattle.std.specs.Option.{option_map, is_some}
-use Rattle.std.proofs.lemmas.Bool.{eq-eqb, ne_eqb, cases_Bool, cases_eq, cases_lt, cond-true, cond-false, false≢true, le-ltb, lt-ltb, or_right}
-use Rattle.std.proofs.lemmas.List.{length-reverse}
-use Rattle.std.proofs.lemmas.Option.{same_Some}
-use Rattle.mum_base.specs.declared.number.ChannelId.{ChannelId}
-use Rattle.mum_tree.specs.declared.channel.Row.{Row}
-use Rattle.mum_tree.specs.Proper.{LeadUp}
-use Rattle.mum_tree.specs.Rows.{row_of, is_below, level, path, upward}
-use Rattle.mum_tree.proofs.Shrunk.{is_top, list_any-reverse}
-use Rattle.mum_tree.proofs.Upward.{the_root, none_contained, option_cases, upward_at, upward_missing, upward_root, upward_under, upward_zero}
+use Rattle.mum_tree.proofs.Common.{◌≡◌, ◌≢◌, ℕ, zero, suc, ◌<◌, ◌+◌, ◌-◌, ◌≤◌, ◌||◌, Bool, true, false, cond, eqb, ltb, List, [], ◌∷◌, Option, Some, None, length, reverse, refl, arith, ap, sym, ◌∙◌, ⊎_elim, Contains, list_any, position, position_or_len, option_map, is_some, eq-eqb, ne_eqb, cases_Bool, cases_eq, cases_lt, cond-true, cond-false, false≢true, le-ltb, lt-ltb, or_right, length-reverse, same_Some, ChannelId, Row, LeadUp, row_of, is_below, level, path, upward}
+use Rattle.mum_tree.proofs.{Shrunk.is_top, Shrunk.list_any-reverse, Upward.the_root, Upward.none_contained, Upward.option_cases, Upward.upward_at, Upward.upward_missing, Upward.upward_root, Upward.upward_under, Upward.upward_zero}
 
 later_place : (n m : ℕ) → cond (ltb (1 + n) (suc m)) (Some (1 + n)) None ≡ option_map (λ k. k + 1) (cond (ltb n m) (Some n) None)
 later_place n m =
@@ -48,7 +38,7 @@ some_position p (x ∷ xs) =
 pub some_level : (rows : List Row) (top id : ChannelId) → is_some (level rows top id) ≡ is_below rows top id
 some_level rows top id = some_position (is_top top) (upward rows 33 id) ∙ sym (list_any-reverse (is_top top) (upward rows 33 id))
 
--- one more step of a climb, with so many steps left
+-- one more step of a climb, with n steps left
 pub climb_missing : (rows : List Row) (top at : ChannelId) (left : ℕ) → row_of rows at ≡ None → position (is_top top) (upward rows left at) ≡ None
 climb_missing rows top at left none = ap (position (is_top top)) (upward_missing rows left at none)
 

@@ -1,23 +1,6 @@
 -- Rounds over links find what links lead to.
-use Rattle.std.proofs.Common.{◌≡◌, ℕ, zero, suc, ◌<◌, ◌≤◌, ◌&&◌, ◌⊎◌, inl, inr, Bool, true, false, not, cond, eqb, List, [], ◌∷◌, length, get_or, Some, refl, arith, ap, sym, ◌∙◌, subst, ⊎_elim}
-use Rattle.std.specs.Prelude.{◌↔◌}
-use Rattle.std.specs.List.{All, Contains, count_by, list_any}
-use Rattle.std.proofs.lemmas.Bool.{and_from, and_parts, both_ways, cases_Bool, eq-eqb, eqb-true, false≢true, or_cases, or_left, or_right, not-true}
-use Rattle.std.proofs.lemmas.List.Elements.{All-contains}
-use Rattle.std.proofs.lemmas.List.Sums.{count_by-le-length, sum_by-cons}
-use Rattle.std.proofs.lemmas.Option.{same_Some}
-use Rattle.mum_base.specs.declared.number.ChannelId.{ChannelId}
-use Rattle.mum_tree.specs.declared.channel.Row.{Row}
-use Rattle.mum_tree.specs.Rows.{number, row_of, is_there}
-use Rattle.mum_tree.specs.Proper.{AreLinks, IsBetween}
-use Rattle.mum_tree.specs.State.{Pair, TreeState}
-use Rattle.mum_tree.specs.Walks.{is_reached, linked, LeadTo, Walk}
-use Rattle.mum_tree.proofs.Changed.{number_found}
-use Rattle.mum_tree.proofs.Edits.{some_row}
-use Rattle.mum_tree.proofs.Find.{contains_later}
-use Rattle.mum_tree.proofs.Marks.{passes_from, passes_to}
-use Rattle.mum_tree.proofs.Start.{root_row}
-use Rattle.mum_tree.proofs.Upward.{none_contained}
+use Rattle.mum_tree.proofs.Common.{◌≡◌, ℕ, zero, suc, ◌<◌, ◌≤◌, ◌&&◌, ◌⊎◌, inl, inr, Bool, true, false, not, cond, eqb, List, [], ◌∷◌, length, get_or, Some, refl, arith, ap, sym, ◌∙◌, subst, ⊎_elim, ◌↔◌, All, Contains, count_by, list_any, and_from, and_parts, both_ways, cases_Bool, eq-eqb, eqb-true, false≢true, or_cases, or_left, or_right, not-true, All-contains, count_by-le-length, sum_by-cons, same_Some, ChannelId, Row, number, row_of, is_there, AreLinks, IsBetween, Pair, TreeState, is_reached, linked, LeadTo, Walk}
+use Rattle.mum_tree.proofs.{Changed.number_found, Edits.some_row, Find.contains_later, Marks.passes_from, Marks.passes_to, Start.root_row, Upward.none_contained}
 
 pub any_has : {X : Type 0} (p : X → Bool) (x : X) (xs : List X) → p x ≡ true → Contains xs x → list_any p xs ≡ true
 any_has p x [] on has = absurd (none_contained x has)
@@ -136,7 +119,7 @@ count_some p xs some = omega (arith, count_less (λ x. false) p xs (λ x off. ab
     any_more : {X : Type 0} (p q : X → Bool) (xs : List X) → ((x : X) → p x ≡ true → q x ≡ true) → list_any p xs ≡ true → list_any q xs ≡ true
     any_more p q xs more some = let (x, has, on) = any_from p xs some in any_has q x xs (more x on) has
 
--- the row of a channel stands somewhere
+-- the row of a channel is somewhere
 pub row_stands : (rows : List Row) (id : ChannelId) (row : Row) → row_of rows id ≡ Some row → (k : ℕ) × (k < length rows) × ((d : Row) → get_or rows k d ≡ row)
 row_stands [] id row found = cc
 row_stands (first ∷ rows) id row found =

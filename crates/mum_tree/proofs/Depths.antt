@@ -1,19 +1,6 @@
 -- How far channels are under a top, kept by place.
-use Rattle.std.proofs.Common.{◌≡◌, ◌≢◌, ℕ, zero, suc, ◌<◌, ◌+◌, ◌-◌, ◌≤◌, ◌&&◌, Bool, true, false, ltb, List, Option, Some, None, IfSome, length, get_or, set, replicate, refl, arith, ap, sym, ◌∙◌, subst, ⊎_elim}
-use Rattle.std.specs.List.{AllPairs, Contains, position}
-use Rattle.std.specs.Option.{option_map, option_map_or, is_some}
-use Rattle.std.proofs.lemmas.Bool.{eq-eqb, ne_eqb, cases_eq, cases_lt, le-ltb, lt-ltb, and_left}
-use Rattle.std.proofs.lemmas.List.{get_or-set_same, get_or-set_other, get_or_default, length-reverse}
-use Rattle.std.proofs.lemmas.List.Quantifiers.{position-Some}
-use Rattle.std.proofs.lemmas.Option.{none-some, same_Some}
-use Rattle.mum_base.specs.declared.number.ChannelId.{ChannelId}
-use Rattle.mum_tree.specs.declared.channel.Row.{Row}
-use Rattle.mum_tree.specs.Proper.{LeadUp}
-use Rattle.mum_tree.specs.Rows.{number, row_of, is_below, level, nests, path, upward, AreLevels, Rise}
-use Rattle.mum_tree.proofs.Climb.{climb_done, climb_missing, climb_on, climb_root, climb_top, one_less, some_level}
-use Rattle.mum_tree.proofs.Find.{row_of_at}
-use Rattle.mum_tree.proofs.Shrunk.{is_top, upward_enough}
-use Rattle.mum_tree.proofs.Upward.{the_root, lead_parent, option_cases, there_from_lead, upward_missing, upward_more, upward_root, upward_under, upward_zero}
+use Rattle.mum_tree.proofs.Common.{◌≡◌, ◌≢◌, ℕ, zero, suc, ◌<◌, ◌+◌, ◌-◌, ◌≤◌, ◌&&◌, Bool, true, false, ltb, List, Option, Some, None, IfSome, length, get_or, set, replicate, refl, arith, ap, sym, ◌∙◌, subst, ⊎_elim, AllPairs, Contains, position, option_map, option_map_or, is_some, eq-eqb, ne_eqb, cases_eq, cases_lt, le-ltb, lt-ltb, and_left, get_or-set_same, get_or-set_other, get_or_default, length-reverse, position-Some, none-some, same_Some, ChannelId, Row, LeadUp, number, row_of, is_below, level, nests, path, upward, AreLevels, Rise}
+use Rattle.mum_tree.proofs.{Climb.climb_done, Climb.climb_missing, Climb.climb_on, Climb.climb_root, Climb.climb_top, Climb.one_less, Climb.some_level, Find.row_of_at, Shrunk.is_top, Shrunk.upward_enough, Upward.the_root, Upward.lead_parent, Upward.option_cases, Upward.there_from_lead, Upward.upward_missing, Upward.upward_more, Upward.upward_root, Upward.upward_under, Upward.upward_zero}
 
 -- the level of a row that is the top's, the root's, or neither
 pub level_at_top : (rows : List Row) (top id : ChannelId) (row : Row) → row_of rows id ≡ Some row → id.0 ≡ top.0 → Some 0 ≡ level rows top id
@@ -40,7 +27,7 @@ level_under rows top id row lead found other under =
     ap (λ us. option_map (λ k. k + 1) (position (is_top top) us)) (parent_whole rows id row lead found under)
     ∙ sym (climb_on rows top id 33 row (omega arith) found other under)
 
--- a way up of so many steps has at most so many channels
+-- a way up of n steps has at most n channels
 pub upward_within : (rows : List Row) (steps : ℕ) (id : ChannelId) → length (upward rows steps id) ≤ steps
 upward_within rows zero id = omega (arith, ap length (upward_zero rows id))
 upward_within rows (suc steps) id =
@@ -128,7 +115,7 @@ deeper above own steps whole is =
     (λ (g : above + 1 + steps ≤ 33). le-ltb 33 (above + 1 + steps) g ∙ sym (le-ltb (33 + own) (above + 1 + whole) (omega arith)))
     (cases_lt 33 (above + 1 + steps))
 
--- a row nests too deep exactly where its level tells it
+-- a row nests too deep exactly where its level says so
 pub nests_by_level : (rows : List Row) (id parent : ChannelId) (row : Row) (above : ℕ) (found : Option ℕ) → LeadUp rows → above ≡ length (path rows parent) → found ≡ level rows id row.channel.id → option_map_or (λ steps. ltb 33 (above + 1 + steps)) found false ≡ nests rows id parent row
 nests_by_level rows id parent row above None lead high is =
     sym (and_left (is_below rows id row.channel.id) (ltb (33 + length (path rows id)) (length (path rows parent) + 1 + length (path rows row.channel.id))) (sym (some_level rows id row.channel.id) ∙ ap is_some (sym is)))

@@ -1,26 +1,6 @@
--- What a change of a channel leaves is a tree exactly where nothing stands against it.
-use Rattle.std.proofs.Common.{◌≡◌, ◌≢◌, ℕ, ◌<◌, ◌&&◌, Bool, true, false, not, cond, eqb, List, [], length, get_or, Option, Some, None, refl, ap, sym, ◌∙◌, subst, ⊎_elim}
-use Rattle.std.specs.Prelude.{◌↔◌}
-use Rattle.std.specs.List.{list_all}
-use Rattle.std.specs.Option.{option_map_or}
-use Rattle.std.specs.Str.{bytes_eq}
-use Rattle.std.proofs.lemmas.Bool.{and_from, and_parts, both_ways, cases_Bool, cond_both, eq-eqb, eqb-true, or_from}
-use Rattle.std.proofs.lemmas.Slice.Eq.{bytes_eq-Decides}
-use Rattle.mum_base.specs.declared.number.ChannelId.{ChannelId}
-use Rattle.mum_tree.specs.declared.channel.Row.{Row}
-use Rattle.mum_tree.specs.declared.fault.TreeFault.TheVariants.{NoChannel, SameName, RootFixed, LinkCount}
-use Rattle.mum_tree.specs.Change.{Change, fault_of_edit, given_or, name_after, names_there, overlinks, parent_after, renames_or_moves, with_change, with_given}
-use Rattle.mum_tree.specs.Proper.{AreLinks, IsProper}
-use Rattle.mum_tree.specs.Refusals.{fault_of_move, fault_of_rename, fault_of_placement, name_of, parent_of}
-use Rattle.mum_tree.specs.Rows.{row_of, is_taken, is_there}
-use Rattle.mum_tree.specs.State.{TreeState, changed, with_channel, with_name, with_parent}
-use Rattle.mum_tree.proofs.Closure.{row_stands}
-use Rattle.mum_tree.proofs.Edited.{edited, still_given, was_given}
-use Rattle.mum_tree.proofs.Edits.{named, renaming, some_row}
-use Rattle.mum_tree.proofs.Joined.{links_kept, relinked}
-use Rattle.mum_tree.proofs.Moved.{moving, placed, same_change, under_parent}
-use Rattle.mum_tree.proofs.Partners.{fits_back, links_after}
-use Rattle.mum_tree.proofs.PlacementBack.{name_free, root_fixed, placement_allowed}
+-- What a change of a channel leaves is a tree exactly where nothing forbids it.
+use Rattle.mum_tree.proofs.Common.{◌≡◌, ◌≢◌, ℕ, ◌<◌, ◌&&◌, Bool, true, false, not, cond, eqb, List, [], length, get_or, Option, Some, None, refl, ap, sym, ◌∙◌, subst, ⊎_elim, ◌↔◌, list_all, option_map_or, bytes_eq, and_from, and_parts, both_ways, cases_Bool, cond_both, eq-eqb, eqb-true, or_from, bytes_eq-Decides, ChannelId, Row, NoChannel, SameName, RootFixed, LinkCount, Change, fault_of_edit, given_or, name_after, names_there, overlinks, parent_after, renames_or_moves, with_change, with_given, AreLinks, IsProper, fault_of_move, fault_of_rename, fault_of_placement, name_of, parent_of, row_of, is_taken, is_there, TreeState, changed, with_channel, with_name, with_parent}
+use Rattle.mum_tree.proofs.{Closure.row_stands, Edited.edited, Edited.still_given, Edited.was_given, Edits.named, Edits.renaming, Edits.some_row, Joined.links_kept, Joined.relinked, Moved.moving, Moved.placed, Moved.same_change, Moved.under_parent, Partners.fits_back, Partners.links_after, PlacementBack.name_free, PlacementBack.root_fixed, PlacementBack.placement_allowed}
 
 -- a name and a parent that stay are no other
 stays_placed : (tree : TreeState) (id : ChannelId) (change : Change) → name_after tree id change ≡ name_of tree id → parent_after tree id change ≡ parent_of tree id → renames_or_moves tree id change ≡ false
@@ -38,7 +18,7 @@ allowed_by tree id change there placement links =
     ∙ ap (λ s. option_map_or (λ fault. Some fault) s over) placement
     ∙ ap (λ (b : Bool). cond b (Some LinkCount) None) links
 
--- nothing stands against the name and the parent that a change left
+-- nothing forbids the name and the parent that a change left
 placement_back : (tree : TreeState) (at : ℕ) (id : ChannelId) (row : Row) (change : Change) → IsProper tree → at < length tree.channels → row_of tree.channels id ≡ Some row → row ≡ get_or tree.channels at row → is_there tree.channels (parent_after tree id change) ≡ true → IsProper (with_channel tree id (with_given change)) → cond (renames_or_moves tree id change) (fault_of_placement tree id (name_after tree id change) (parent_after tree id change)) None ≡ None
 placement_back tree at id row change proper within found is above after =
     let rows = tree.channels in
@@ -60,11 +40,11 @@ placement_back tree at id row change proper within found is above after =
     cond_both (renames_or_moves tree id change) fault None (λ f. f ≡ None) (λ e. free) (λ e. refl))
     (cases_Bool (eqb id.0 0))
 
--- a channel that is there, its row, and where the row stands
+-- a channel that is there, its row, and where the row is
 row_there : (rows : List Row) (id : ChannelId) → is_there rows id ≡ true → (row : Row) × (row_of rows id ≡ Some row) × ((at : ℕ) × (at < length rows) × ((d : Row) → get_or rows at d ≡ row))
 row_there rows id there = let (row, found) = some_row (row_of rows id) there in (row, found, row_stands rows id row found)
 
--- after a change a tree is a tree exactly where nothing stands against it
+-- after a change a tree is a tree exactly where nothing forbids it
 pub edits_both_ways : (tree : TreeState) (id : ChannelId) (change : Change) → IsProper tree → names_there tree id change ≡ true → (fault_of_edit tree id change ≡ None) ↔ IsProper (with_change tree id change)
 edits_both_ways tree id change proper named =
     let rows = tree.channels in
@@ -86,7 +66,7 @@ edits_both_ways tree id change proper named =
           (fits_back tree id change proper.rise proper.joined there adds links),
     )
 
--- with another name of a channel that is not the root a tree is a tree exactly where nothing stands against it
+-- with another name of a channel that is not the root a tree is a tree exactly where nothing forbids it
 pub renames_both_ways : (tree : TreeState) (id : ChannelId) (name : List ℕ) → IsProper tree → is_there tree.channels id ≡ true → eqb id.0 0 ≡ false → (fault_of_rename tree id name ≡ None) ↔ IsProper (with_name tree id name)
 renames_both_ways tree id name proper there under =
     let rows = tree.channels in

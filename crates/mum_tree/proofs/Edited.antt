@@ -1,32 +1,13 @@
--- What a change of a channel in several parts leaves, where nothing stands against it.
-use Rattle.std.proofs.Common.{◌≡◌, ℕ, ℤ, ◌<◌, ◌≤◌, ltb, ◌&&◌, not, Bool, true, false, cond, eqb, List, [], length, get_or, set, Option, Some, None, refl, ap, sym, ◌∙◌, subst, ⊎_elim}
-use Rattle.std.specs.List.{count_by, list_all}
-use Rattle.std.specs.Option.{option_map_or, is_some}
-use Rattle.std.specs.Str.{bytes_eq}
-use Rattle.std.proofs.lemmas.Bool.{and_parts, cases_Bool, cond_both, eqb-true, ltb-false, not-false, or_parts}
-use Rattle.std.proofs.lemmas.Slice.Eq.{bytes_eq-Decides}
-use Rattle.mum_base.specs.declared.number.ChannelId.{ChannelId}
-use Rattle.mum_tree.specs.declared.channel.Channel.{Channel}
-use Rattle.mum_tree.specs.declared.channel.Row.{Row}
-use Rattle.mum_tree.specs.declared.fault.TreeFault.{TreeFault}
-use Rattle.mum_tree.specs.declared.fault.TreeFault.TheVariants.{NoChannel, LinkCount}
-use Rattle.mum_tree.specs.Change.{Change, fault_of_edit, given_or, is_partner_after, name_after, names_there, overlinks, parent_after, renames_or_moves, with_change, with_given}
-use Rattle.mum_tree.specs.Proper.{AreLinks, IsProper}
-use Rattle.mum_tree.specs.Refusals.{fault_of_placement, name_of, parent_of}
-use Rattle.mum_tree.specs.Rows.{number, row_of, is_there}
-use Rattle.mum_tree.specs.State.{Pair, TreeState, changed}
-use Rattle.mum_tree.proofs.Changed.{change_row, row_of-map, some_from, some_to}
-use Rattle.mum_tree.proofs.Edits.{informed, informed_proper, none_stands, row_read, set_row, some_is_none}
-use Rattle.mum_tree.proofs.Joined.{links_kept, relinked}
-use Rattle.mum_tree.proofs.Moved.{placed, placed_proper, same_change}
-use Rattle.mum_tree.proofs.Partners.{links_after, links_fit}
+-- What a change of a channel in several parts leaves, where nothing forbids it.
+use Rattle.mum_tree.proofs.Common.{◌≡◌, ℕ, ℤ, ◌<◌, ◌≤◌, ltb, ◌&&◌, not, Bool, true, false, cond, eqb, List, [], length, get_or, set, Option, Some, None, refl, ap, sym, ◌∙◌, subst, ⊎_elim, count_by, list_all, option_map_or, is_some, bytes_eq, and_parts, cases_Bool, cond_both, eqb-true, ltb-false, not-false, or_parts, bytes_eq-Decides, ChannelId, Channel, Row, TreeFault, NoChannel, LinkCount, Change, fault_of_edit, given_or, is_partner_after, name_after, names_there, overlinks, parent_after, renames_or_moves, with_change, with_given, AreLinks, IsProper, fault_of_placement, name_of, parent_of, number, row_of, is_there, Pair, TreeState, changed}
+use Rattle.mum_tree.proofs.{Changed.change_row, Changed.row_of-map, Changed.some_from, Changed.some_to, Edits.informed, Edits.informed_proper, Edits.none_stands, Edits.row_read, Edits.set_row, Edits.some_is_none, Joined.links_kept, Joined.relinked, Moved.placed, Moved.placed_proper, Moved.same_change, Partners.links_after, Partners.links_fit}
 
--- where the first of two causes that stands is none, neither stands
+-- where the first of two causes that applies is none, neither applies
 neither : (one other : Option TreeFault) → option_map_or (λ fault. Some fault) one other ≡ None → (one ≡ None) × (other ≡ None)
 neither None other e = (refl, e)
 neither (Some fault) other e = absurd (some_is_none fault e)
 
--- what stands where a change is allowed
+-- what holds where a change is allowed
 record Allows (tree : TreeState) (id : ChannelId) (change : Change) : Type 0 where
   there : is_there tree.channels id ≡ true
   above : is_there tree.channels (parent_after tree id change) ≡ true

@@ -1,31 +1,11 @@
--- What adding, renaming and describing a channel leave, where nothing stands against it.
-use Rattle.std.proofs.Common.{◌≡◌, ◌≢◌, ℕ, ◌<◌, ◌≤◌, Bool, true, false, not, cond, eqb, leb, List, [], ◌∷◌, ◌++◌, length, get_or, set, map, Option, Some, None, refl, arith, ap, sym, ◌∙◌, subst, ⊎_elim}
-use Rattle.std.specs.List.{AllPairs, Contains}
-use Rattle.std.specs.Option.{option_map_or, is_some}
-use Rattle.std.proofs.lemmas.Bool.{eqb-true, eq-eqb, ne_eqb, leb-false, cases_Bool, cond_both, both_ways, false≢true, not-false}
-use Rattle.std.proofs.lemmas.List.{length-reverse}
-use Rattle.std.proofs.lemmas.Option.{same_Some}
-use Rattle.mum_base.specs.declared.number.ChannelId.{ChannelId}
-use Rattle.mum_tree.specs.declared.channel.Channel.{Channel}
-use Rattle.mum_tree.specs.declared.channel.ChannelInfo.{ChannelInfo}
-use Rattle.mum_tree.specs.declared.channel.Row.{Row}
-use Rattle.mum_tree.specs.declared.fault.TreeFault.{TreeFault}
-use Rattle.mum_tree.specs.declared.fault.TreeFault.TheVariants.{NoChannel, SameName, TemporaryParent, Nesting, Count, RootFixed}
-use Rattle.mum_tree.specs.Refusals.{fault_of_add, fault_of_remove, fault_of_rename, fault_of_set_info, parent_of, is_full}
-use Rattle.mum_tree.specs.Rows.{number, row_of, is_there, is_temporary, is_taken, has_name_beside, path, upward, Rise}
-use Rattle.mum_tree.specs.Proper.{AreApart, IsProper}
-use Rattle.mum_tree.specs.Places.{least_place}
-use Rattle.mum_tree.specs.State.{TreeState, changed, new_row, plain_info, with_channel, with_new}
-use Rattle.mum_tree.proofs.Find.{row_of_at}
-use Rattle.mum_tree.proofs.Upward.{the_root, upward_short}
-use Rattle.mum_tree.proofs.Changed.{AllPairs-map, change_keeps, change_row, map_proper, none_passes, number_found, set_changed, stands_beside}
-use Rattle.mum_tree.proofs.Grown.{grown_proper}
-use Rattle.mum_tree.proofs.Places.{least_free, least_within}
+-- What adding, renaming and describing a channel leave, where nothing forbids it.
+use Rattle.mum_tree.proofs.Common.{◌≡◌, ◌≢◌, ℕ, ◌<◌, ◌≤◌, Bool, true, false, not, cond, eqb, leb, List, [], ◌∷◌, ◌++◌, length, get_or, set, map, Option, Some, None, refl, arith, ap, sym, ◌∙◌, subst, ⊎_elim, AllPairs, Contains, option_map_or, is_some, eqb-true, eq-eqb, ne_eqb, leb-false, cases_Bool, cond_both, both_ways, false≢true, not-false, length-reverse, same_Some, ChannelId, Channel, ChannelInfo, Row, TreeFault, NoChannel, SameName, TemporaryParent, Nesting, Count, RootFixed, fault_of_add, fault_of_remove, fault_of_rename, fault_of_set_info, parent_of, is_full, number, row_of, is_there, is_temporary, is_taken, has_name_beside, path, upward, Rise, AreApart, IsProper, least_place, TreeState, changed, new_row, plain_info, with_channel, with_new}
+use Rattle.mum_tree.proofs.{Find.row_of_at, Upward.the_root, Upward.upward_short, Changed.AllPairs-map, Changed.change_keeps, Changed.change_row, Changed.map_proper, Changed.none_passes, Changed.number_found, Changed.set_changed, Changed.stands_beside, Grown.grown_proper, Places.least_free, Places.least_within}
 
 pub some_is_none : (fault : TreeFault) → Some fault ≡ None → ⊥
 some_is_none fault e = cc
 
--- where a list of causes names none, the first does not stand
+-- where a list of causes names none, the first does not apply
 pub none_stands : (b : Bool) (fault : TreeFault) (rest : Option TreeFault) → cond b (Some fault) rest ≡ None → (b ≡ false) × (rest ≡ None)
 none_stands true fault rest e = absurd (some_is_none fault e)
 none_stands false fault rest e = (refl, e)
@@ -40,7 +20,7 @@ pub some_row : (found : Option Row) → is_some found ≡ true → (row : Row) �
 some_row None there = absurd (false≢true there)
 some_row (Some row) there = (row, refl)
 
--- what an added channel leaves, as the code has it, where no cause stands against it
+-- what an added channel leaves, as the code has it, where no cause applies
 pub added_proper : (tree : TreeState) (place : ℕ) (id parent : ChannelId) (name text : List ℕ) (temporary : Bool) (info : ChannelInfo) → IsProper tree → tree.greatest < id.0 → fault_of_add tree id parent name ≡ None → text ≡ name → info ≡ plain_info → place ≡ least_place tree.channels → (record { channels = tree.channels ++ record { place = place; channel = record { id = id; parent = parent; name = text; temporary = temporary; info = info } } ∷ []; links = tree.links; greatest = id.0; limit = tree.limit } ≡ with_new tree id parent name temporary) × IsProper (with_new tree id parent name temporary)
 added_proper tree place id parent name text temporary info proper above allowed same plain least =
     let rows = tree.channels in
@@ -83,7 +63,7 @@ clash rows id row name free k d within lower other under same =
     (none_passes (has_name_beside row.channel.parent id name) rows free k d within)
     (stands_beside row.channel.parent id name (get_or rows k d) lower under other same)
 
--- a cause that does not stand is passed over
+-- a cause that does not apply is passed over
 passes : (b : Bool) (fault : TreeFault) (rest : Option TreeFault) → b ≡ false → cond b (Some fault) rest ≡ rest
 passes b fault rest off = ap (λ (x : Bool). cond x (Some fault) rest) off
 
@@ -138,7 +118,7 @@ informed_proper tree id info proper =
     proper.apart)
     proper
 
--- what a renaming leaves, as the code has it, where no cause stands against it
+-- what a renaming leaves, as the code has it, where no cause applies
 pub renaming : (tree : TreeState) (seen : List Row) (at : ℕ) (id : ChannelId) (row : Row) (name text : List ℕ) → IsProper tree → seen ≡ tree.channels → (at < length seen) × ((other : Row) → row_of seen id ≡ Some (get_or seen at other)) → row ≡ get_or tree.channels at row → fault_of_rename tree id name ≡ None → text ≡ name → (set tree.channels at (record row { channel = named text row.channel }) ≡ changed id (named name) tree.channels) × IsProper (with_channel tree id (named name))
 renaming tree seen at id row name text proper same located is allowed given =
     let rows = tree.channels in

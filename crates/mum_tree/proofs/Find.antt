@@ -1,12 +1,5 @@
 -- The row of a channel, where the numbers of the rows rise.
-use Rattle.std.proofs.Common.{◌≡◌, ℕ, zero, suc, ◌<◌, List, [], ◌∷◌, Some, None, length, get_or, refl, arith}
-use Rattle.std.specs.List.{AllPairs, Contains}
-use Rattle.std.proofs.Common.{ap}
-use Rattle.std.proofs.lemmas.Bool.{eq-eqb, ne_eqb}
-use Rattle.std.proofs.lemmas.List.{get_or_default}
-use Rattle.mum_base.specs.declared.number.ChannelId.{ChannelId}
-use Rattle.mum_tree.specs.declared.channel.Row.{Row}
-use Rattle.mum_tree.specs.Rows.{number, row_of, Rise}
+use Rattle.mum_tree.proofs.Common.{◌≡◌, ℕ, zero, suc, ◌<◌, List, [], ◌∷◌, Some, None, length, get_or, refl, arith, AllPairs, Contains, ap, eq-eqb, ne_eqb, get_or_default, ChannelId, Row, number, row_of, Rise}
 
 pub AllPairs-tail : {X : Type 0} (R : X → X → Type 0) (x : X) (xs : List X) → AllPairs R (x ∷ xs) → AllPairs R xs
 AllPairs-tail R x xs pairs i j d below within = pairs (suc i) (suc j) d (omega arith) (omega arith)
@@ -30,6 +23,6 @@ row_of_none (row ∷ rows) id none =
     rw (ne_eqb (number row) id.0 (λ (e : number row ≡ id.0). none 0 row (omega arith) e))
     (row_of_none rows id (λ k d within same. none (suc k) d (omega arith) same))
 
--- the number at a place, whatever stands past the end
+-- the number at a place, whatever is past the end
 pub number_at : {X : Type 0} (n : X → ℕ) (xs : List X) (i : ℕ) (d other : X) → i < length xs → n (get_or xs i d) ≡ n (get_or xs i other)
 number_at n xs i d other within = ap n (get_or_default xs i d other within)

@@ -1,20 +1,6 @@
 -- A tree with one more channel.
-use Rattle.std.proofs.Common.{◌≡◌, ◌≢◌, ℕ, ◌<◌, ◌≤◌, Bool, true, false, cond, eqb, List, [], ◌∷◌, ◌++◌, length, get_or, Option, Some, None, refl, arith, ap, sym, ◌∙◌, subst, ⊎_elim, length-append}
-use Rattle.std.specs.List.{All, AllPairs, Contains}
-use Rattle.std.specs.Option.{option_map_or, is_some}
-use Rattle.std.proofs.lemmas.Bool.{eqb-true, ne_eqb, cases_Bool, both_ways, false≢true}
-use Rattle.std.proofs.lemmas.List.Elements.{All-push, All-weaker}
-use Rattle.std.proofs.lemmas.List.Quantifiers.{all_pairs_push}
-use Rattle.mum_base.specs.declared.number.ChannelId.{ChannelId}
-use Rattle.mum_tree.specs.declared.channel.Row.{Row}
-use Rattle.mum_tree.specs.Rows.{number, row_of, is_there, is_temporary, is_taken, has_name_beside, upward, Rise}
-use Rattle.mum_tree.specs.Places.{IsFree}
-use Rattle.mum_tree.specs.Proper.{AreApart, IsProper, IsUnderLasting, LeadUp}
-use Rattle.mum_tree.specs.State.{TreeState, with_row}
-use Rattle.mum_tree.proofs.Find.{contains_later, row_of_at}
-use Rattle.mum_tree.proofs.Joined.{links_kept}
-use Rattle.mum_tree.proofs.Upward.{the_root, KeepParents, upward_kept, upward_under, lead_parent, there_from_lead, option_cases}
-use Rattle.mum_tree.proofs.Changed.{none_passes, stands_beside}
+use Rattle.mum_tree.proofs.Common.{◌≡◌, ◌≢◌, ℕ, ◌<◌, ◌≤◌, Bool, true, false, cond, eqb, List, [], ◌∷◌, ◌++◌, length, get_or, Option, Some, None, refl, arith, ap, sym, ◌∙◌, subst, ⊎_elim, length-append, All, AllPairs, Contains, option_map_or, is_some, eqb-true, ne_eqb, cases_Bool, both_ways, false≢true, All-push, All-weaker, all_pairs_push, ChannelId, Row, number, row_of, is_there, is_temporary, is_taken, has_name_beside, upward, Rise, IsFree, AreApart, IsProper, IsUnderLasting, LeadUp, TreeState, with_row}
+use Rattle.mum_tree.proofs.{Find.contains_later, Find.row_of_at, Joined.links_kept, Upward.the_root, Upward.KeepParents, Upward.upward_kept, Upward.upward_under, Upward.lead_parent, Upward.there_from_lead, Upward.option_cases, Changed.none_passes, Changed.stands_beside}
 
 pub none_is_some : (row : Row) → None ≡ Some row → ⊥
 none_is_some row e = cc

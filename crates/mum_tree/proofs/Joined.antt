@@ -1,17 +1,5 @@
 -- What the links of every tree keep.
-use Rattle.std.proofs.Common.{◌≡◌, ◌≢◌, ℕ, zero, suc, ◌<◌, ◌≤◌, ◌+◌, ◌||◌, ◌&&◌, not, Bool, true, false, cond, eqb, ltb, List, [], ◌∷◌, get_or, refl, arith, ap, sym, ◌∙◌, subst}
-use Rattle.std.specs.Bool.{IsTrue}
-use Rattle.std.specs.List.{All, AllPairs, Contains, count_by, filter, list_any}
-use Rattle.std.proofs.lemmas.Bool.{eqb-true, ne_eqb, cond_both, both_ways, not_from_false, or_from, or_parts}
-use Rattle.std.proofs.lemmas.Bool.Decides.{nat_tests}
-use Rattle.std.proofs.lemmas.List.Elements.{All-cons, All-contains, All-filter, All-nil, All-tail, All-weaker, filter_passes}
-use Rattle.std.proofs.lemmas.List.Sums.{sum_by-cons}
-use Rattle.std.proofs.lemmas.List.Kept.{AllPairs-cons, AllPairs-filter}
-use Rattle.mum_base.specs.declared.number.ChannelId.{ChannelId}
-use Rattle.mum_tree.specs.declared.channel.Row.{Row}
-use Rattle.mum_tree.specs.Rows.{is_there}
-use Rattle.mum_tree.specs.Proper.{AreBothWays, AreLinks, ArePairs, IsBetween, IsProper}
-use Rattle.mum_tree.specs.State.{Pair, Ordered, TreeState, is_above, is_pair, pairs_without, starts_at, with_pair}
+use Rattle.mum_tree.proofs.Common.{◌≡◌, ◌≢◌, ℕ, zero, suc, ◌<◌, ◌≤◌, ◌+◌, ◌||◌, ◌&&◌, not, Bool, true, false, cond, eqb, ltb, List, [], ◌∷◌, get_or, refl, arith, ap, sym, ◌∙◌, subst, IsTrue, All, AllPairs, Contains, count_by, filter, list_any, eqb-true, ne_eqb, cond_both, both_ways, not_from_false, or_from, or_parts, nat_tests, All-cons, All-contains, All-filter, All-nil, All-tail, All-weaker, filter_passes, sum_by-cons, AllPairs-cons, AllPairs-filter, ChannelId, Row, is_there, AreBothWays, AreLinks, ArePairs, IsBetween, IsProper, Pair, Ordered, TreeState, is_above, is_pair, pairs_without, starts_at, with_pair}
 use Rattle.mum_tree.proofs.Find.{AllPairs-tail, contains_later}
 
 pub links_none : (rows : List Row) → AreLinks rows []

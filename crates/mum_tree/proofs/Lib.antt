@@ -1,3 +1,5 @@
+mod Common
+pub mod Public
 pub mod Back
 pub mod Changed
 pub mod Climb

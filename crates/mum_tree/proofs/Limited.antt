@@ -1,10 +1,5 @@
 -- What the limit of a tree bounds.
-use Rattle.std.proofs.Common.{◌≡◌, ◌<◌, List, arith, sym, subst}
-use Rattle.std.specs.List.{All}
-use Rattle.std.proofs.lemmas.List.Elements.{All-weaker}
-use Rattle.mum_tree.specs.declared.channel.Row.{Row}
-use Rattle.mum_tree.specs.Proper.{IsProper}
-use Rattle.mum_tree.specs.State.{TreeState}
+use Rattle.mum_tree.proofs.Common.{◌≡◌, ◌<◌, List, arith, sym, subst, All, All-weaker, Row, IsProper, TreeState}
 
 pub placed_within : (tree : TreeState) (seen : List Row) → seen ≡ tree.channels → IsProper tree → All (λ row. row.place < 2048) seen
 placed_within tree seen same proper =

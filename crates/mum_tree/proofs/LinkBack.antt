@@ -1,21 +1,6 @@
--- With a link a tree is a tree exactly where nothing stands against it.
-use Rattle.std.proofs.Common.{◌≡◌, ◌≢◌, ◌<◌, ◌≤◌, ◌||◌, Bool, true, false, not, cond, eqb, leb, List, length, Option, Some, None, refl, arith, ap, sym, ◌∙◌, subst, ⊎_elim}
-use Rattle.std.specs.Prelude.{◌↔◌}
-use Rattle.std.specs.List.{count_by, filter}
-use Rattle.std.proofs.lemmas.Bool.{and_from, both_ways, cases_Bool, eq-eqb, or_from, or_parts}
-use Rattle.std.proofs.lemmas.List.{length-map}
-use Rattle.std.proofs.lemmas.List.Sums.{length-filter}
-use Rattle.mum_base.specs.declared.number.ChannelId.{ChannelId}
-use Rattle.mum_tree.specs.declared.fault.TreeFault.{TreeFault}
-use Rattle.mum_tree.specs.declared.fault.TreeFault.TheVariants.{LinkCount, NoChannel}
-use Rattle.mum_tree.specs.Proper.{IsProper}
-use Rattle.mum_tree.specs.Refusals.{fault_of_link}
-use Rattle.mum_tree.specs.Rows.{is_there}
-use Rattle.mum_tree.specs.State.{Pair, TreeState, are_linked, ends_from, partners, starts_at, with_link, with_pair}
-use Rattle.mum_tree.proofs.Back.{over_limit}
-use Rattle.mum_tree.proofs.Closure.{worth}
-use Rattle.mum_tree.proofs.Joined.{count_with, relinked}
-use Rattle.mum_tree.proofs.Linking.{links_grown}
+-- With a link a tree is a tree exactly where nothing forbids it.
+use Rattle.mum_tree.proofs.Common.{◌≡◌, ◌≢◌, ◌<◌, ◌≤◌, ◌||◌, Bool, true, false, not, cond, eqb, leb, List, length, Option, Some, None, refl, arith, ap, sym, ◌∙◌, subst, ⊎_elim, ◌↔◌, count_by, filter, and_from, both_ways, cases_Bool, eq-eqb, or_from, or_parts, length-map, length-filter, ChannelId, TreeFault, LinkCount, NoChannel, IsProper, fault_of_link, is_there, Pair, TreeState, are_linked, ends_from, partners, starts_at, with_link, with_pair}
+use Rattle.mum_tree.proofs.{Back.over_limit, Closure.worth, Joined.count_with, Joined.relinked, Linking.links_grown}
 
 -- where a channel has not too many links with one more, it had room for it
 had_room : (pairs after : List Pair) (of : ChannelId) → count_by (starts_at of) pairs < count_by (starts_at of) after → count_by (starts_at of) after ≤ 64 → leb 64 (length (ends_from of pairs)) ≡ false
@@ -30,7 +15,7 @@ one_more pairs a b =
       omega (arith, own b, count_with (starts_at b) b a one, count_with (starts_at b) a b pairs),
     )
 
--- with a link between two channels that are there a tree is a tree exactly where nothing stands against it
+-- with a link between two channels that are there a tree is a tree exactly where nothing forbids it
 pub link_both_ways : (tree : TreeState) (a b : ChannelId) → IsProper tree → is_there tree.channels a ≡ true → is_there tree.channels b ≡ true → (fault_of_link tree a b ≡ None) ↔ IsProper (with_link tree a b)
 link_both_ways tree a b proper here there =
     let rows = tree.channels in

@@ -1,17 +1,5 @@
 -- A binary search in pairs that are in order.
-use Rattle.std.proofs.Common.{◌≡◌, ℕ, zero, suc, ◌+◌, ◌<◌, ◌≤◌, ◌||◌, ◌&&◌, Bool, true, false, not, cond, eqb, ltb, List, [], ◌∷◌, length, get_or, take, drop, Result, Ok, Err, inl, inr, refl, sym, ap, subst, ◌∙◌, arith, ⊎_elim}
-use Rattle.std.specs.List.{All, filter, list_any}
-use Rattle.std.specs.List.Sorted.{IsBinarySearchResult, IsNonDecreasingBy, IsPartitionedBy, IsPartitionPoint, IsSearchInRange}
-use Rattle.std.specs.Ordering.{nat_cmp, ordering_index, ordering_then}
-use Rattle.std.specs.declared.cmp.Ordering.TheVariants.{Less, Equal, Greater}
-use Rattle.std.specs.Result.{is_ok}
-use Rattle.std.specs.declared.cmp.Ordering.{Ordering}
-use Rattle.std.proofs.lemmas.Bool.{cases_lt, cases_order, eq-eqb, eqb-true, ltb-true, lt-ltb, ne_eqb}
-use Rattle.std.proofs.lemmas.Bool.Decides.{nat_tests}
-use Rattle.std.proofs.lemmas.List.{get_or-drop, length-drop}
-use Rattle.std.proofs.lemmas.List.Folds.{list_any_at, list_any_none}
-use Rattle.mum_base.specs.declared.number.ChannelId.{ChannelId}
-use Rattle.mum_tree.specs.State.{Pair, Ordered, is_above, is_pair, starts_at}
+use Rattle.mum_tree.proofs.Common.{◌≡◌, ℕ, zero, suc, ◌+◌, ◌<◌, ◌≤◌, ◌||◌, ◌&&◌, Bool, true, false, not, cond, eqb, ltb, List, [], ◌∷◌, length, get_or, take, drop, Result, Ok, Err, inl, inr, refl, sym, ap, subst, ◌∙◌, arith, ⊎_elim, All, filter, list_any, IsBinarySearchResult, IsNonDecreasingBy, IsPartitionedBy, IsPartitionPoint, IsSearchInRange, nat_cmp, ordering_index, ordering_then, Less, Equal, Greater, is_ok, Ordering, cases_lt, cases_order, eq-eqb, eqb-true, ltb-true, lt-ltb, ne_eqb, nat_tests, get_or-drop, length-drop, list_any_at, list_any_none, ChannelId, Pair, Ordered, is_above, is_pair, starts_at}
 
 -- what holds of each pair with itself and with those above it holds along the list
 along : (links : List Pair) (R : Pair → Pair → Type 0) → Ordered links → ((x : Pair) → R x x) → ((x y : Pair) → is_above x.0 x.1 y ≡ true → R x y) → (i j : ℕ) (d : Pair) → i ≤ j → j < length links → R (get_or links i d) (get_or links j d)
@@ -29,7 +17,7 @@ pub starts_rise : (links : List Pair) (i j : ℕ) (d : Pair) → Ordered links �
 starts_rise links i j d ordered =
     along links (λ x y. x.0.0 ≤ y.0.0) ordered (λ x. omega arith) (λ x y above. above_least x.0.0 x.1.0 y.0.0 y.1.0 above) i j d
 
--- what begins at a lower channel stands before the others
+-- what begins at a lower channel comes before the others
 pub starts_parted : (links : List Pair) (from : ChannelId) → Ordered links → IsPartitionedBy (λ link. ltb link.0.0 from.0) links
 starts_parted links from ordered i j d below within lower =
     let rises = starts_rise links i j d ordered below within in
@@ -72,7 +60,7 @@ found_by_binary_search links from to ordered (Err i) within parted = sym (list_a
 not_above : (a b c d e f : ℕ) → (ltb c e || (eqb e c && ltb d f)) ≡ true → not (ltb a e || (eqb e a && ltb b f)) ≡ true → not (ltb a c || (eqb c a && ltb b d)) ≡ true
 not_above a b c d e f above off = grind (arith, nat_tests)
 
--- what is not above a pair stands before what is
+-- what is not above a pair comes before what is
 pub above_parted : (links : List Pair) (from to : ChannelId) → Ordered links → IsPartitionedBy (λ pair. not (is_above from to pair)) links
 above_parted links from to ordered =
     along links (λ x y. not (is_above from to y) ≡ true → not (is_above from to x) ≡ true) ordered

@@ -1,18 +1,6 @@
 -- The pairs that links and their removal leave.
-use Rattle.std.proofs.Common.{◌≡◌, ℕ, zero, suc, ◌<◌, ◌≤◌, Bool, true, false, cond, List, [], ◌∷◌, length, get_or, ◌||◌, ◌&&◌, not, Some, None, eqb, leb, ◌≢◌, Result, Ok, refl, arith, ap, sym, ◌∙◌}
-use Rattle.std.specs.List.{count_by, filter, insert}
-use Rattle.std.specs.Result.{is_ok}
-use Rattle.std.proofs.lemmas.Bool.{and_parts, leb-false, ne_eqb, not-false, or_from, or_parts}
-use Rattle.std.proofs.lemmas.List.{length-map}
-use Rattle.std.proofs.lemmas.List.Sums.{length-filter}
-use Rattle.mum_base.specs.declared.number.ChannelId.{ChannelId}
-use Rattle.mum_tree.specs.declared.fault.TreeFault.TheVariants.{LinkCount, NoChannel}
-use Rattle.mum_tree.specs.Refusals.{fault_of_link}
-use Rattle.mum_tree.specs.Proper.{AreLinks, IsProper}
-use Rattle.mum_tree.specs.Rows.{is_there}
-use Rattle.mum_tree.specs.State.{Pair, TreeState, are_linked, ends_from, partners, is_above, starts_at, with_pair}
-use Rattle.mum_tree.proofs.Edits.{none_stands}
-use Rattle.mum_tree.proofs.Joined.{links_made}
+use Rattle.mum_tree.proofs.Common.{◌≡◌, ℕ, zero, suc, ◌<◌, ◌≤◌, Bool, true, false, cond, List, [], ◌∷◌, length, get_or, ◌||◌, ◌&&◌, not, Some, None, eqb, leb, ◌≢◌, Result, Ok, refl, arith, ap, sym, ◌∙◌, count_by, filter, insert, is_ok, and_parts, leb-false, ne_eqb, not-false, or_from, or_parts, length-map, length-filter, ChannelId, LinkCount, NoChannel, fault_of_link, AreLinks, IsProper, is_there, Pair, TreeState, are_linked, ends_from, partners, is_above, starts_at, with_pair}
+use Rattle.mum_tree.proofs.{Edits.none_stands, Joined.links_made}
 
 -- an insert before the first pair that is above
 pub insert_is : (pairs : List Pair) (at : ℕ) (from to : ChannelId) → at ≤ length pairs → ((k : ℕ) (d : Pair) → k < at → is_above from to (get_or pairs k d) ≡ false) → ((d : Pair) → at < length pairs → is_above from to (get_or pairs at d) ≡ true) → insert pairs at (from, to) ≡ with_pair from to pairs
@@ -42,7 +30,7 @@ left_by_ok answer done left chosen other is ok = is ∙ ap (λ (b : Bool). cond 
 pub room_left : (pairs : List Pair) (of : ChannelId) → leb 64 (length (ends_from of pairs)) ≡ false → count_by (starts_at of) pairs < 64
 room_left pairs of few = omega (arith, leb-false 64 (length (ends_from of pairs)) few, length-filter (starts_at of) pairs, length-map (filter (starts_at of) pairs) (λ pair. pair.1))
 
--- the links with one more, where no cause stands against it
+-- the links with one more, where no cause applies
 pub links_grown : (tree : TreeState) (a b : ChannelId) → IsProper tree → fault_of_link tree a b ≡ None → a.0 ≢ b.0 → are_linked tree a b ≡ false → AreLinks tree.channels (with_pair b a (with_pair a b tree.links))
 links_grown tree a b proper allowed differ unlinked =
     let rows = tree.channels in

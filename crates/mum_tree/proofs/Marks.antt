@@ -1,15 +1,6 @@
 -- The marks of channels.
-use Rattle.std.proofs.Common.{◌≡◌, ◌≢◌, ℕ, zero, suc, ◌+◌, ◌<◌, ◌||◌, eqb, replicate, set, take, Bool, true, false, cond, List, [], ◌∷◌, length, get_or, map, refl, arith, ap, sym, ◌∙◌, subst, ⊎_elim}
-use Rattle.std.specs.List.{All, AllPairs, Contains, filter}
-use Rattle.std.proofs.lemmas.Bool.{cases_Bool, cases_eq, cases_order, eq-eqb, ne_eqb, or_right}
-use Rattle.std.proofs.lemmas.List.Folds.{list_any_more}
-use Rattle.mum_base.specs.Channels.{is_among}
-use Rattle.std.proofs.lemmas.List.{get_or_default, get_or-set_same, get_or-set_other}
-use Rattle.mum_base.specs.declared.number.ChannelId.{ChannelId}
-use Rattle.mum_tree.specs.declared.channel.Row.{Row}
-use Rattle.mum_tree.specs.Rows.{number, Rise}
-use Rattle.mum_tree.proofs.Find.{contains_later}
-use Rattle.mum_tree.proofs.Upward.{none_contained}
+use Rattle.mum_tree.proofs.Common.{◌≡◌, ◌≢◌, ℕ, zero, suc, ◌+◌, ◌<◌, ◌||◌, eqb, replicate, set, take, Bool, true, false, cond, List, [], ◌∷◌, length, get_or, map, refl, arith, ap, sym, ◌∙◌, subst, ⊎_elim, All, AllPairs, Contains, filter, cases_Bool, cases_eq, cases_order, eq-eqb, ne_eqb, or_right, list_any_more, is_among, get_or_default, get_or-set_same, get_or-set_other, ChannelId, Row, number, Rise}
+use Rattle.mum_tree.proofs.{Find.contains_later, Upward.none_contained}
 
 -- what passes a test, and what is made of it
 abbrev pub Passes : {X Y : Type 0} → (X → Bool) → (X → Y) → List X → Y → Type 0
@@ -41,7 +32,7 @@ passes_to {X} {Y} p f (x ∷ xs) y (suc k, within, is) =
     (λ (off : p x ≡ false). subst (λ (ys : List Y). Contains ys y) (sym (ap (λ (b : Bool). map f (cond b (x ∷ filter p xs) (filter p xs))) off)) rest)
     (cases_Bool (p x))
 
--- where numbers rise, two that are equal stand at one place
+-- where numbers rise, two that are equal are at one place
 pub one_place : {X : Type 0} (n : X → ℕ) (xs : List X) (i j : ℕ) (d : X) → AllPairs (λ one later. n one < n later) xs → i < length xs → j < length xs → n (get_or xs i d) ≡ n (get_or xs j d) → i ≡ j
 one_place n xs i j d rise first second same =
     ⊎_elim

@@ -1,26 +1,6 @@
--- A tree in which a channel, with all below it, stands under another.
-use Rattle.std.proofs.Common.{◌≡◌, ◌≢◌, ℕ, zero, suc, ◌<◌, ◌≤◌, ◌+◌, ◌-◌, ◌&&◌, ◌||◌, Bool, true, false, not, cond, eqb, ltb, List, [], ◌∷◌, length, get_or, set, map, Option, Some, None, refl, arith, ap, sym, ◌∙◌, subst, ⊎_elim}
-use Rattle.std.specs.List.{All, AllPairs, Contains, list_any}
-use Rattle.std.specs.Option.{option_map, option_map_or, is_some}
-use Rattle.std.proofs.lemmas.Bool.{eqb-true, eq-eqb, ne_eqb, cases_Bool, cond_both, both_ways, or_parts, ltb-false, and_cases}
-use Rattle.std.proofs.lemmas.List.{length-map, length-reverse}
-use Rattle.std.proofs.lemmas.List.Elements.{All-map, All-weaker}
-use Rattle.mum_base.specs.declared.number.ChannelId.{ChannelId}
-use Rattle.mum_tree.specs.declared.channel.Channel.{Channel}
-use Rattle.mum_tree.specs.declared.channel.Row.{Row}
-use Rattle.mum_tree.specs.Rows.{number, row_of, is_there, is_temporary, is_taken, is_below, nests, path, upward, Rise}
-use Rattle.mum_tree.specs.Proper.{AreApart, IsProper, IsUnderLasting, LeadUp}
-use Rattle.mum_tree.specs.declared.fault.TreeFault.TheVariants.{NoChannel, SameName, UnderItself, Nesting, RootFixed, TemporaryParent}
-use Rattle.std.proofs.lemmas.Bool.{and_parts, not-false}
-use Rattle.mum_tree.specs.Refusals.{fault_of_move, fault_of_placement, name_of}
-use Rattle.mum_tree.specs.State.{TreeState, changed, with_channel}
-use Rattle.mum_tree.proofs.Find.{contains_later}
-use Rattle.mum_tree.proofs.Joined.{links_kept}
-use Rattle.mum_tree.proofs.Upward.{the_root, none_contained, there_from_lead, upward_zero, upward_root, upward_under, lead_parent}
-use Rattle.mum_tree.proofs.Changed.{AllPairs-map, change_row, is_temporary-map, number_found, row_of-map, some_from, some_to}
-use Rattle.std.proofs.lemmas.Option.{same_Some}
-use Rattle.mum_tree.proofs.Edits.{clash, none_stands, row_read, same_row, set_row, some_row}
-use Rattle.mum_tree.proofs.Shrunk.{is_top, list_any-reverse, upward_enough}
+-- A tree in which a channel, with all below it, is under another.
+use Rattle.mum_tree.proofs.Common.{◌≡◌, ◌≢◌, ℕ, zero, suc, ◌<◌, ◌≤◌, ◌+◌, ◌-◌, ◌&&◌, ◌||◌, Bool, true, false, not, cond, eqb, ltb, List, [], ◌∷◌, length, get_or, set, map, Option, Some, None, refl, arith, ap, sym, ◌∙◌, subst, ⊎_elim, All, AllPairs, Contains, list_any, option_map, option_map_or, is_some, eqb-true, eq-eqb, ne_eqb, cases_Bool, cond_both, both_ways, or_parts, ltb-false, and_cases, length-map, length-reverse, All-map, All-weaker, ChannelId, Channel, Row, number, row_of, is_there, is_temporary, is_taken, is_below, nests, path, upward, Rise, AreApart, IsProper, IsUnderLasting, LeadUp, NoChannel, SameName, UnderItself, Nesting, RootFixed, TemporaryParent, and_parts, not-false, fault_of_move, fault_of_placement, name_of, TreeState, changed, with_channel, same_Some}
+use Rattle.mum_tree.proofs.{Find.contains_later, Joined.links_kept, Upward.the_root, Upward.none_contained, Upward.there_from_lead, Upward.upward_zero, Upward.upward_root, Upward.upward_under, Upward.lead_parent, Changed.AllPairs-map, Changed.change_row, Changed.is_temporary-map, Changed.number_found, Changed.row_of-map, Changed.some_from, Changed.some_to, Edits.clash, Edits.none_stands, Edits.row_read, Edits.same_row, Edits.set_row, Edits.some_row, Shrunk.is_top, Shrunk.list_any-reverse, Shrunk.upward_enough}
 
 -- a channel with the name, the parent and the info of another
 abbrev pub placed : Channel → Channel → Channel
@@ -137,7 +117,7 @@ none_found p (first ∷ rows) x row none found =
     (λ (e : eqb (number first) x.0 ≡ false). none_found p rows x row parts.1 (sym (ap (λ (b : Bool). cond b (Some first) (row_of rows x)) e) ∙ found))
     (cases_Bool (eqb (number first) x.0))
 
--- where no row would stand too deep, this one does not
+-- where no row would be too deep, this one does not
 not_deep : (rows : List Row) (id parent x : ChannelId) → is_there rows x ≡ true → list_any (nests rows id parent) rows ≡ false → is_below rows id x ≡ true → length (upward rows 33 parent) + 1 + length (upward rows 33 x) ≤ 33 + length (upward rows 33 id)
 not_deep rows id parent x there shallow under =
     let (row, found) = some_row (row_of rows x) there in
@@ -252,7 +232,7 @@ placed_proper tree id placement row proper found stands allowed =
 abbrev pub under_parent : ChannelId → Channel → Channel
 under_parent parent channel = record channel { parent = parent }
 
--- what a move leaves, as the code has it, where no cause stands against it
+-- what a move leaves, as the code has it, where no cause applies
 pub moving : (tree : TreeState) (seen : List Row) (at : ℕ) (id parent : ChannelId) (row : Row) → IsProper tree → seen ≡ tree.channels → (at < length seen) × ((other : Row) → row_of seen id ≡ Some (get_or seen at other)) → row ≡ get_or tree.channels at row → fault_of_move tree id parent ≡ None → (set tree.channels at (record row { channel = under_parent parent row.channel }) ≡ changed id (under_parent parent) tree.channels) × IsProper (with_channel tree id (under_parent parent))
 moving tree seen at id parent row proper same located is allowed =
     let rows = tree.channels in

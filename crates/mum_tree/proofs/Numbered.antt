@@ -1,23 +1,6 @@
 -- How the components of links are found, and what their numbers say.
-use Rattle.std.proofs.Common.{◌≡◌, ◌≢◌, ℕ, zero, suc, ◌<◌, ◌≤◌, ◌+◌, ◌-◌, Bool, true, false, cond, eqb, ltb, List, [], ◌∷◌, ◌++◌, length, get_or, set, take, drop, map, refl, arith, ap, sym, ◌∙◌, subst, ⊎_elim, length-append, length-set}
-use Rattle.std.specs.Prelude.{◌↔◌}
-use Rattle.std.specs.List.{All, Contains, filter}
-use Rattle.std.proofs.lemmas.Bool.{cases_eq, cases_lt, eq-eqb, eqb-true, le-ltb, lt-ltb, ne_eqb}
-use Rattle.std.proofs.lemmas.List.{get_or_default, get_or-append_right, get_or-set_other, get_or-set_same, map-append}
-use Rattle.std.proofs.Math.Seq.{take-append_seam}
-use Rattle.std.proofs.Math.ListN.{get_or-append}
-use Rattle.std.proofs.lemmas.List.Elements.{All-contains, All-push, filter_more}
-use Rattle.mum_base.specs.declared.number.ChannelId.{ChannelId}
-use Rattle.mum_tree.specs.declared.channel.Row.{Row}
-use Rattle.mum_tree.specs.Components.{moved_to, united, AreComponents, AreUnited, Descends, IsForest}
-use Rattle.mum_tree.specs.Proper.{AreBothWays, AreLinks, ArePairs, IsBetween}
-use Rattle.mum_tree.specs.Rows.{number, row_of, is_there, Rise}
-use Rattle.mum_tree.specs.State.{Pair, TreeState}
-use Rattle.mum_tree.specs.Walks.{is_reached, linked, LeadTo, Walk}
-use Rattle.mum_tree.proofs.Changed.{number_found}
-use Rattle.mum_tree.proofs.Closure.{both_same, reached_all, row_stands}
-use Rattle.mum_tree.proofs.Edits.{some_row}
-use Rattle.mum_tree.proofs.Marks.{one_place}
+use Rattle.mum_tree.proofs.Common.{◌≡◌, ◌≢◌, ℕ, zero, suc, ◌<◌, ◌≤◌, ◌+◌, ◌-◌, Bool, true, false, cond, eqb, ltb, List, [], ◌∷◌, ◌++◌, length, get_or, set, take, drop, map, refl, arith, ap, sym, ◌∙◌, subst, ⊎_elim, length-append, length-set, ◌↔◌, All, Contains, filter, cases_eq, cases_lt, eq-eqb, eqb-true, le-ltb, lt-ltb, ne_eqb, get_or_default, get_or-append_right, get_or-set_other, get_or-set_same, map-append, take-append_seam, get_or-append, All-contains, All-push, filter_more, ChannelId, Row, moved_to, united, AreComponents, AreUnited, Descends, IsForest, AreBothWays, AreLinks, ArePairs, IsBetween, number, row_of, is_there, Rise, Pair, TreeState, is_reached, linked, LeadTo, Walk}
+use Rattle.mum_tree.proofs.{Changed.number_found, Closure.both_same, Closure.reached_all, Closure.row_stands, Edits.some_row, Marks.one_place}
 
 -- ---- links lead on, and back
 

@@ -1,31 +1,6 @@
 -- The links that a change of a channel leaves.
-use Rattle.std.proofs.Common.{◌≡◌, ◌≢◌, ℕ, zero, suc, ◌<◌, ◌≤◌, ◌+◌, ◌&&◌, ◌||◌, ◌⊎◌, inl, inr, Bool, true, false, not, cond, eqb, leb, ltb, List, [], ◌∷◌, length, get_or, map, refl, arith, ap, sym, ◌∙◌, subst, ⊎_elim}
-use Rattle.std.specs.Bool.{IsTrue}
-use Rattle.std.specs.Prelude.{◌↔◌}
-use Rattle.std.specs.List.{AllPairs, Contains, count_by, filter, list_all, list_any}
-use Rattle.std.proofs.lemmas.Bool.{and_from, and_parts, both_ways, cases_Bool, cases_eq, cond_both, eq-eqb, eqb-true, ne_eqb, or_from, or_parts, ltb-false}
-use Rattle.std.proofs.lemmas.Bool.Decides.{nat_tests}
-use Rattle.std.proofs.lemmas.List.{get_or_default, length-map}
-use Rattle.std.proofs.lemmas.List.Elements.{All-contains, filter_passes}
-use Rattle.std.proofs.lemmas.List.Folds.{list_any_none}
-use Rattle.std.proofs.lemmas.List.Kept.{AllPairs-filter}
-use Rattle.std.proofs.lemmas.List.Sums.{length-filter, sum_by-cons}
-use Rattle.mum_base.specs.declared.number.ChannelId.{ChannelId}
-use Rattle.mum_tree.specs.declared.channel.Row.{Row}
-use Rattle.mum_base.specs.Channels.{is_among}
-use Rattle.mum_tree.specs.Change.{Change, is_new_partner, is_partner_after, overlinks, pairs_with_all, pairs_without_all}
-use Rattle.mum_tree.specs.Proper.{AreBothWays, AreLinks, ArePairs, IsBetween, IsProper}
-use Rattle.mum_tree.specs.Rows.{number, row_of, is_there, Rise}
-use Rattle.mum_tree.specs.State.{Pair, Ordered, TreeState, is_above, is_pair, pairs_with, pairs_without, partners, starts_at, with_pair}
-use Rattle.mum_tree.proofs.Changed.{AllPairs-map, none_passes, number_found}
-use Rattle.mum_tree.proofs.Closure.{any_from, any_has, any_there, count_le_at, count_less, row_stands, same_number, worth}
-use Rattle.mum_tree.proofs.Edits.{some_row}
-use Rattle.mum_tree.proofs.Find.{AllPairs-tail}
-use Rattle.mum_tree.proofs.Joined.{pairs_made, pairs_parted}
-use Rattle.mum_tree.proofs.Linking.{room_left}
-use Rattle.mum_tree.proofs.Marks.{passes_from, passes_to}
-use Rattle.mum_tree.proofs.Shrunk.{or_swap}
-use Rattle.mum_tree.proofs.Start.{root_row}
+use Rattle.mum_tree.proofs.Common.{◌≡◌, ◌≢◌, ℕ, zero, suc, ◌<◌, ◌≤◌, ◌+◌, ◌&&◌, ◌||◌, ◌⊎◌, inl, inr, Bool, true, false, not, cond, eqb, leb, ltb, List, [], ◌∷◌, length, get_or, map, refl, arith, ap, sym, ◌∙◌, subst, ⊎_elim, IsTrue, ◌↔◌, AllPairs, Contains, count_by, filter, list_all, list_any, and_from, and_parts, both_ways, cases_Bool, cases_eq, cond_both, eq-eqb, eqb-true, ne_eqb, or_from, or_parts, ltb-false, nat_tests, get_or_default, length-map, All-contains, filter_passes, list_any_none, AllPairs-filter, length-filter, sum_by-cons, ChannelId, Row, is_among, Change, is_new_partner, is_partner_after, overlinks, pairs_with_all, pairs_without_all, AreBothWays, AreLinks, ArePairs, IsBetween, IsProper, number, row_of, is_there, Rise, Pair, Ordered, TreeState, is_above, is_pair, pairs_with, pairs_without, partners, starts_at, with_pair}
+use Rattle.mum_tree.proofs.{Changed.AllPairs-map, Changed.none_passes, Changed.number_found, Closure.any_from, Closure.any_has, Closure.any_there, Closure.count_le_at, Closure.count_less, Closure.row_stands, Closure.same_number, Closure.worth, Edits.some_row, Find.AllPairs-tail, Joined.pairs_made, Joined.pairs_parted, Linking.room_left, Marks.passes_from, Marks.passes_to, Shrunk.or_swap, Start.root_row}
 
 abbrev pub linked_in : List Pair → ChannelId → ChannelId → Bool
 linked_in links x y = list_any (is_pair x y) links

@@ -1,28 +1,6 @@
--- A tree in which a channel has another name or parent is a tree only where nothing stands against them.
-use Rattle.std.proofs.Common.{◌≡◌, ◌≢◌, ℕ, zero, suc, ◌<◌, ◌≤◌, ◌+◌, ◌-◌, ◌&&◌, ◌||◌, Bool, true, false, not, eqb, ltb, List, length, get_or, Some, None, refl, arith, ap, sym, ◌∙◌, subst, ⊎_elim}
-use Rattle.std.specs.List.{AllPairs, Contains, list_any}
-use Rattle.std.specs.Option.{is_some}
-use Rattle.std.proofs.lemmas.Bool.{and_parts, both_ways, cases_Bool, cases_lt, eq-eqb, eqb-true, false_from_ne_true, ltb-true, ne_eqb, not-true}
-use Rattle.std.proofs.lemmas.List.{get_or-map, length-map, length-reverse}
-use Rattle.std.proofs.lemmas.List.Folds.{list_any_none}
-use Rattle.std.proofs.lemmas.Option.{same_Some}
-use Rattle.std.proofs.lemmas.Slice.Eq.{bytes_eq-Decides}
-use Rattle.mum_base.specs.declared.number.ChannelId.{ChannelId}
-use Rattle.mum_tree.specs.declared.channel.Channel.{Channel}
-use Rattle.mum_tree.specs.declared.channel.Row.{Row}
-use Rattle.mum_tree.specs.declared.fault.TreeFault.TheVariants.{SameName, UnderItself, Nesting, RootFixed, TemporaryParent}
-use Rattle.mum_tree.specs.Proper.{AreApart, IsProper, IsUnderLasting, LeadUp}
-use Rattle.mum_tree.specs.Refusals.{fault_of_placement}
-use Rattle.mum_tree.specs.Rows.{number, row_of, is_there, is_temporary, is_below, is_taken, has_name_beside, nests, path, upward, Rise}
-use Rattle.mum_tree.specs.State.{TreeState, with_channel}
-use Rattle.mum_tree.proofs.Back.{five}
-use Rattle.mum_tree.proofs.Changed.{number_found}
-use Rattle.mum_tree.proofs.Closure.{row_stands}
-use Rattle.mum_tree.proofs.Depths.{upward_within}
-use Rattle.mum_tree.proofs.Find.{row_of_at}
-use Rattle.mum_tree.proofs.Moved.{all_moved, found_moved, kinds_kept, moved, moved_row, placed, unmoved, up_off}
-use Rattle.mum_tree.proofs.Shrunk.{is_top, list_any-reverse, upward_enough}
-use Rattle.mum_tree.proofs.Upward.{the_root, lead_parent, none_contained, option_cases, upward_missing, upward_root, upward_under, upward_zero}
+-- A tree in which a channel has another name or parent is a tree only where nothing forbids them.
+use Rattle.mum_tree.proofs.Common.{◌≡◌, ◌≢◌, ℕ, zero, suc, ◌<◌, ◌≤◌, ◌+◌, ◌-◌, ◌&&◌, ◌||◌, Bool, true, false, not, eqb, ltb, List, length, get_or, Some, None, refl, arith, ap, sym, ◌∙◌, subst, ⊎_elim, AllPairs, Contains, list_any, is_some, and_parts, both_ways, cases_Bool, cases_lt, eq-eqb, eqb-true, false_from_ne_true, ltb-true, ne_eqb, not-true, get_or-map, length-map, length-reverse, list_any_none, same_Some, bytes_eq-Decides, ChannelId, Channel, Row, SameName, UnderItself, Nesting, RootFixed, TemporaryParent, AreApart, IsProper, IsUnderLasting, LeadUp, fault_of_placement, number, row_of, is_there, is_temporary, is_below, is_taken, has_name_beside, nests, path, upward, Rise, TreeState, with_channel}
+use Rattle.mum_tree.proofs.{Back.five, Changed.number_found, Closure.row_stands, Depths.upward_within, Find.row_of_at, Moved.all_moved, Moved.found_moved, Moved.kinds_kept, Moved.moved, Moved.moved_row, Moved.placed, Moved.unmoved, Moved.up_off, Shrunk.is_top, Shrunk.list_any-reverse, Shrunk.upward_enough, Upward.the_root, Upward.lead_parent, Upward.none_contained, Upward.option_cases, Upward.upward_missing, Upward.upward_root, Upward.upward_under, Upward.upward_zero}
 
 -- the row with the placement
 abbrev placed_row : Channel → Row → Row
@@ -46,7 +24,7 @@ root_fixed tree id placement row proper found after root =
       ap (λ n. record { 0 = n }) above,
     )
 
--- where names stand apart, no other child of the parent has the name
+-- where names are distinct, no other child of the parent has the name
 pub name_free : (rows : List Row) (id : ChannelId) (placement : Channel) (row : Row) → row_of rows id ≡ Some row → id.0 ≢ 0 → AllPairs AreApart (all_moved id placement rows) → is_taken rows placement.parent id placement.name ≡ false
 name_free rows id placement row found lower apart =
     let f : Row → Row = moved_row id placement in
@@ -122,7 +100,7 @@ no_way rows id placement row found lower round (suc n) (suc steps) x on lead =
     (lead_parent new n x one (found_still rows id x placement one there other) under lead))
     (cases_Bool (eqb x.0 id.0))
 
--- what leads by the moved channel to the root, in so many steps, has the new parent's whole way up in them
+-- what leads by the moved channel to the root, in n steps, has the new parent's whole way up in them
 way_fits : (rows : List Row) (id : ChannelId) (placement : Channel) (row : Row) → row_of rows id ≡ Some row → id.0 ≢ 0 → Contains (upward rows 33 placement.parent) the_root → list_any (is_top id) (upward rows 33 placement.parent) ≡ false → (m steps : ℕ) (x : ChannelId) → m ≤ 33 → steps ≤ 33 → Contains (upward rows steps x) the_root → list_any (is_top id) (upward rows steps x) ≡ true → Contains (upward (all_moved id placement rows) m x) the_root → length (upward rows 33 placement.parent) + 1 + length (upward rows steps x) ≤ m + length (upward rows 33 id)
 way_fits rows id placement row found lower above off zero steps x fits short was on lead =
     absurd (none_contained the_root (subst (λ (us : List ChannelId). Contains us the_root) (upward_zero (all_moved id placement rows) x) lead))
@@ -152,7 +130,7 @@ way_fits rows id placement row found lower above off (suc m) (suc steps) x fits 
     omega (arith, ap length (upward_under rows steps x one there under)))
     (cases_Bool (eqb x.0 id.0))
 
--- where each channel leads to the root, none stands too deep
+-- where each channel leads to the root, none is too deep
 shallow : (rows : List Row) (id : ChannelId) (placement : Channel) (row : Row) → Rise rows → LeadUp rows → row_of rows id ≡ Some row → id.0 ≢ 0 → is_there rows placement.parent ≡ true → list_any (is_top id) (upward rows 33 placement.parent) ≡ false → LeadUp (all_moved id placement rows) → list_any (nests rows id placement.parent) rows ≡ false
 shallow rows id placement row rise lead found lower stands off after =
     list_any_none (nests rows id placement.parent) rows (λ k d within.
@@ -168,7 +146,7 @@ shallow rows id placement row rise lead found lower stands off after =
     let long : 33 + length (path rows id) < length (path rows placement.parent) + 1 + length (path rows x) = ltb-true _ _ deep in
     absurd (omega (arith, length-reverse (upward rows 33 id), length-reverse (upward rows 33 placement.parent), length-reverse (upward rows 33 x)))))
 
--- nothing stands against the name and the parent of a channel in a tree
+-- nothing forbids the name and the parent of a channel in a tree
 pub placement_allowed : (tree : TreeState) (id : ChannelId) (placement : Channel) (row : Row) → IsProper tree → row_of tree.channels id ≡ Some row → is_there tree.channels placement.parent ≡ true → id.0 ≢ 0 → IsProper (with_channel tree id (placed placement)) → fault_of_placement tree id placement.name placement.parent ≡ None
 placement_allowed tree id placement row proper found stands lower after =
     let rows = tree.channels in

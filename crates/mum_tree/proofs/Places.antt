@@ -1,11 +1,5 @@
 -- Which places are taken.
-use Rattle.std.proofs.Common.{◌≡◌, ◌≢◌, ℕ, zero, suc, ◌<◌, ◌+◌, ◌≤◌, ◌||◌, not, eqb, Bool, true, false, cond, List, [], ◌∷◌, length, get_or, set, replicate, refl, arith, ap, sym, subst, ◌∙◌, ⊎_elim}
-use Rattle.std.specs.List.{All, AllPairs, count_by, filter}
-use Rattle.std.proofs.lemmas.Bool.{both_ways, cases_Bool, cases_eq, cases_lt, cases_order, eq-eqb, eqb-true, false≢true, ne_eqb, or_parts}
-use Rattle.std.proofs.lemmas.List.{get_or-set_same, get_or-set_other, get_or_default, get_or_past}
-use Rattle.std.proofs.lemmas.List.Sums.{count_by-le-length, length-filter, sum_by-set, sum_by-cons}
-use Rattle.mum_tree.specs.declared.channel.Row.{Row}
-use Rattle.mum_tree.specs.Places.{first_place, has_place, least_place, IsFree, IsLeastFree}
+use Rattle.mum_tree.proofs.Common.{◌≡◌, ◌≢◌, ℕ, zero, suc, ◌<◌, ◌+◌, ◌≤◌, ◌||◌, not, eqb, Bool, true, false, cond, List, [], ◌∷◌, length, get_or, set, replicate, refl, arith, ap, sym, subst, ◌∙◌, ⊎_elim, All, AllPairs, count_by, filter, both_ways, cases_Bool, cases_eq, cases_lt, cases_order, eq-eqb, eqb-true, false≢true, ne_eqb, or_parts, get_or-set_same, get_or-set_other, get_or_default, get_or_past, count_by-le-length, length-filter, sum_by-set, sum_by-cons, Row, first_place, has_place, least_place, IsFree, IsLeastFree}
 
 pub count_set : (taken : List Bool) (i : ℕ) → i < length taken → count_by (λ one. one) (set taken i true) ≤ count_by (λ one. one) taken + 1
 count_set taken i within = omega (arith, sum_by-set (λ (one : Bool). cond one 1 0) taken i true false within)
@@ -108,7 +102,7 @@ fewer (row ∷ rows) gone has =
     omega (arith, fewer rows gone (sym (ap (λ (b : Bool). b || has_place rows gone) e) ∙ has)))
     (cases_Bool (eqb row.place gone))
 
--- so many places that are had need so many rows
+-- n places that are had need n rows
 as_many : (places : ℕ) (rows : List Row) → ((k : ℕ) → k < places → has_place rows k ≡ true) → places ≤ length rows
 as_many zero rows all = omega arith
 as_many (suc places) rows all =
@@ -174,7 +168,7 @@ free_unhad rows place free = by_cases (has_place rows place) refl
     by_cases true has = absurd (had rows place has free)
     by_cases false none = refl
 
--- marks that tell which places are free tell which are had
+-- marks that say which places are free say which are had
 pub marks_had : (rows : List Row) (marks : List Bool) → All (λ row. row.place < length marks) rows
     → ((place : ℕ) → place < length marks → get_or marks place false ≡ false → IsFree rows place)
     → ((place : ℕ) → get_or marks place false ≡ true → IsFree rows place → ⊥)

@@ -1,28 +1,6 @@
 -- Links that are changed one channel after the other.
-use Rattle.std.proofs.Common.{◌≡◌, ℕ, suc, ◌<◌, ◌≤◌, ◌+◌, ◌*◌, ◌&&◌, ◌||◌, Bool, true, false, not, cond, eqb, ltb, List, [], ◌∷◌, length, get_or, take, None, refl, arith, ap, sym, ◌∙◌, subst, ⊎_elim}
-use Rattle.std.specs.Bool.{IsTrue}
-use Rattle.std.specs.List.{count_by, list_all}
-use Rattle.std.specs.Option.{is_some}
-use Rattle.std.proofs.lemmas.Bool.{and_from, and_parts, cases_Bool, cases_eq, cond_both, eq-eqb, eqb-true, false≢true, ne_eqb, or_left, or_right}
-use Rattle.std.proofs.lemmas.Bool.Decides.{nat_tests}
-use Rattle.std.proofs.lemmas.List.{get_or_default, nil_from_length}
-use Rattle.std.proofs.lemmas.List.Elements.{All-contains}
-use Rattle.std.proofs.lemmas.List.Sums.{count_by_more_no, count_by_more_yes, sum_by_more_le}
-use Rattle.mum_base.specs.declared.number.ChannelId.{ChannelId}
-use Rattle.mum_base.specs.Channels.{is_among}
-use Rattle.mum_tree.specs.declared.channel.Row.{Row}
-use Rattle.mum_tree.specs.Change.{Change, pairs_set, pairs_with_all, pairs_without_all}
-use Rattle.mum_tree.specs.Proper.{ArePairs, IsBetween}
-use Rattle.mum_tree.specs.Rows.{number, row_of, is_there, Rise}
-use Rattle.mum_tree.specs.State.{Pair, Ordered, TreeState, is_above, is_pair, pairs_with}
-use Rattle.mum_tree.proofs.Changed.{number_found}
-use Rattle.mum_tree.proofs.Closure.{any_from, both_same, row_stands, same_number}
-use Rattle.mum_tree.proofs.Depths.{row_found}
-use Rattle.mum_tree.proofs.Edits.{some_row}
-use Rattle.mum_tree.proofs.Find.{AllPairs-tail}
-use Rattle.mum_tree.proofs.Joined.{pairs_parted}
-use Rattle.mum_tree.proofs.Marks.{one_place}
-use Rattle.mum_tree.proofs.Partners.{and_false, and_true, join_other, join_own, linked_back, linked_in, other_after, own_after, pair_is, pairs_after, pairs_joined, part_other, part_own}
+use Rattle.mum_tree.proofs.Common.{◌≡◌, ℕ, suc, ◌<◌, ◌≤◌, ◌+◌, ◌*◌, ◌&&◌, ◌||◌, Bool, true, false, not, cond, eqb, ltb, List, [], ◌∷◌, length, get_or, take, None, refl, arith, ap, sym, ◌∙◌, subst, ⊎_elim, IsTrue, count_by, list_all, is_some, and_from, and_parts, cases_Bool, cases_eq, cond_both, eq-eqb, eqb-true, false≢true, ne_eqb, or_left, or_right, nat_tests, get_or_default, nil_from_length, All-contains, count_by_more_no, count_by_more_yes, sum_by_more_le, ChannelId, is_among, Row, Change, pairs_set, pairs_with_all, pairs_without_all, ArePairs, IsBetween, number, row_of, is_there, Rise, Pair, Ordered, TreeState, is_above, is_pair, pairs_with}
+use Rattle.mum_tree.proofs.{Changed.number_found, Closure.any_from, Closure.both_same, Closure.row_stands, Closure.same_number, Depths.row_found, Edits.some_row, Find.AllPairs-tail, Joined.pairs_parted, Marks.one_place, Partners.and_false, Partners.and_true, Partners.join_other, Partners.join_own, Partners.linked_back, Partners.linked_in, Partners.other_after, Partners.own_after, Partners.pair_is, Partners.pairs_after, Partners.pairs_joined, Partners.part_other, Partners.part_own}
 
 -- ---- lists of links in order are equal where they link the same channels
 

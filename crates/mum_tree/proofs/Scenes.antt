@@ -1,12 +1,5 @@
 -- Small trees of which worked facts speak, made step by step from the root alone. Channels are numbers.
-use Rattle.std.proofs.Common.{ℕ, zero, suc, ◌+◌, ◌/◌, ◌%◌, true, false, List, [], ◌∷◌, ◌++◌, fold, map, Some, None}
-use Rattle.mum_base.specs.declared.number.ChannelId.{ChannelId}
-use Rattle.mum_tree.specs.declared.channel.ChannelInfo.{ChannelInfo}
-use Rattle.mum_tree.specs.declared.channel.Row.{Row}
-use Rattle.mum_tree.specs.Change.{Change, with_change}
-use Rattle.mum_tree.specs.Places.{first_place}
-use Rattle.mum_tree.specs.Rows.{upward}
-use Rattle.mum_tree.specs.State.{TreeState, new_row, root_alone, with_info, with_link, with_name, with_new, with_parent, without_link, without_subtree}
+use Rattle.mum_tree.proofs.Common.{ℕ, zero, suc, ◌+◌, ◌/◌, ◌%◌, true, false, List, [], ◌∷◌, ◌++◌, fold, map, Some, None, ChannelId, ChannelInfo, Row, Change, with_change, first_place, upward, TreeState, new_row, root_alone, with_info, with_link, with_name, with_new, with_parent, without_link, without_subtree}
 
 abbrev pub channel : ℕ → ChannelId
 channel number = record { 0 = number }

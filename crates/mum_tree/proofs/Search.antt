@@ -1,16 +1,5 @@
 -- A binary search in a list whose numbers rise.
-use Rattle.std.proofs.Common.{◌≡◌, ◌∙◌, ℕ, ◌<◌, ◌≤◌, Bool, true, List, length, get_or, Option, Some, None, Result, Ok, Err, MatchOption, MatchResult, arith, ap, sym, subst, inl, inr, ⊎_elim}
-use Rattle.std.specs.Prelude.{◌↔◌}
-use Rattle.std.specs.List.{AllPairs, Contains}
-use Rattle.std.specs.List.Sorted.{IsSearchInRange, IsBinarySearchResult, IsNonDecreasingBy}
-use Rattle.std.specs.Ordering.{nat_cmp, ordering_index}
-use Rattle.std.specs.Result.{is_ok, result_ok}
-use Rattle.std.proofs.lemmas.Bool.{cases_eq, cases_lt, false≢true}
-use Rattle.std.proofs.lemmas.Bool.Decides.{nat_tests}
-use Rattle.std.proofs.lemmas.Cmp.{ranked}
-use Rattle.mum_base.specs.declared.number.ChannelId.{ChannelId}
-use Rattle.mum_tree.specs.declared.channel.Row.{Row}
-use Rattle.mum_tree.specs.Rows.{number, row_of, Rise}
+use Rattle.mum_tree.proofs.Common.{◌≡◌, ◌∙◌, ℕ, ◌<◌, ◌≤◌, Bool, true, List, length, get_or, Option, Some, None, Result, Ok, Err, MatchOption, MatchResult, arith, ap, sym, subst, inl, inr, ⊎_elim, ◌↔◌, AllPairs, Contains, IsSearchInRange, IsBinarySearchResult, IsNonDecreasingBy, nat_cmp, ordering_index, is_ok, result_ok, cases_eq, cases_lt, false≢true, nat_tests, ranked, ChannelId, Row, number, row_of, Rise}
 use Rattle.mum_tree.proofs.Find.{row_of_at, row_of_none}
 
 module _ {X : Type 0} (n : X → ℕ) (xs : List X) (rise : AllPairs (λ one later. n one < n later) xs) (m : ℕ) where
@@ -33,7 +22,7 @@ module _ {X : Type 0} (n : X → ℕ) (xs : List X) (rise : AllPairs (λ one lat
     | inr above ↦ omega (arith, same, ranked _ m _ (sym ((parted comparisons_rise).1 k d above inside)))
   ]
 
--- what the search tells of a channel
+-- what the search reports of a channel
 abbrev pub Located : List Row → ChannelId → Option ℕ → Type 0
 Located rows id found = MatchOption found (row_of rows id ≡ None) (λ at. (at < length rows) × ((other : Row) → row_of rows id ≡ Some (get_or rows at other)))
 
@@ -45,7 +34,7 @@ pub located : (rows : List Row) (id : ChannelId) → Rise rows → (r : Result �
 located rows id rise r found bound position is =
     subst (Located rows id) (sym is) (located_at rows id rise r (found_by_binary_search number rows rise id.0 r bound position))
 
--- what the search tells of membership
+-- what the search reports of membership
 pub told_by_search : (ids : List ChannelId) (id : ChannelId) (r : Result ℕ ℕ) (told : Bool) → told ≡ is_ok r → MatchResult r (λ i. (i < length ids) × ((d : ChannelId) → (get_or ids i d).0 ≡ id.0)) (λ i. (k : ℕ) (d : ChannelId) → k < length ids → (get_or ids k d).0 ≡ id.0 → ⊥) → (told ≡ true) ↔ Contains ids id
 told_by_search ids id (Ok i) told is found = (λ on. (i, found.0, ap (λ n. record { 0 = n }) (found.1 id)), λ has. is)
 told_by_search ids id (Err i) told is none = (λ on. absurd (false≢true (sym is ∙ on)), λ has. let (k, within, same) = has in absurd (none k id within (ap (λ (x : ChannelId). x.0) same)))

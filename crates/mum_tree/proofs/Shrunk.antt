@@ -1,23 +1,6 @@
 -- A tree without a channel and all below it.
-use Rattle.std.proofs.Common.{◌≡◌, ◌≢◌, ℕ, zero, suc, ◌<◌, ◌≤◌, ◌+◌, ◌-◌, ◌||◌, ◌&&◌, ◌==◌, Bool, true, false, not, cond, eqb, List, [], ◌∷◌, ◌++◌, get_or, reverse, Option, Some, None, refl, arith, ap, sym, ◌∙◌, subst, ⊎_elim}
-use Rattle.std.specs.List.{All, Contains, filter, list_any}
-use Rattle.std.specs.Option.{option_map_or, is_some}
-use Rattle.std.proofs.lemmas.Bool.{and_from, and_parts, eqb-true, ne_eqb, cases_Bool, false≢true, or_parts, not-true, not_from_false}
-use Rattle.std.proofs.lemmas.List.Elements.{All-filter, filter_passes}
-use Rattle.std.proofs.lemmas.List.Kept.{AllPairs-filter}
-use Rattle.std.proofs.lemmas.List.Sums.{length-filter, count_by-le-length}
-use Rattle.std.proofs.lemmas.Option.{same_Some}
-use Rattle.mum_base.specs.declared.number.ChannelId.{ChannelId}
-use Rattle.mum_tree.specs.declared.channel.Row.{Row}
-use Rattle.mum_tree.specs.declared.fault.TreeFault.TheVariants.{NoChannel, RootFixed}
-use Rattle.mum_tree.specs.Refusals.{fault_of_remove}
-use Rattle.mum_tree.specs.Rows.{number, row_of, is_there, is_below, upward, Rise}
-use Rattle.mum_tree.specs.Proper.{AreApart, AreLinks, IsProper, IsUnderLasting, LeadUp}
-use Rattle.mum_tree.specs.State.{Pair, TreeState}
-use Rattle.mum_tree.proofs.Find.{AllPairs-tail, row_of_at, row_of_none}
-use Rattle.mum_tree.proofs.Upward.{the_root, reverse-cons, option_cases, upward_zero, there_from_lead, upward_root, upward_under, upward_more, lead_parent}
-use Rattle.mum_tree.proofs.Changed.{number_found}
-use Rattle.mum_tree.proofs.Joined.{links_filtered}
+use Rattle.mum_tree.proofs.Common.{◌≡◌, ◌≢◌, ℕ, zero, suc, ◌<◌, ◌≤◌, ◌+◌, ◌-◌, ◌||◌, ◌&&◌, ◌==◌, Bool, true, false, not, cond, eqb, List, [], ◌∷◌, ◌++◌, get_or, reverse, Option, Some, None, refl, arith, ap, sym, ◌∙◌, subst, ⊎_elim, All, Contains, filter, list_any, option_map_or, is_some, and_from, and_parts, eqb-true, ne_eqb, cases_Bool, false≢true, or_parts, not-true, not_from_false, All-filter, filter_passes, AllPairs-filter, length-filter, count_by-le-length, same_Some, ChannelId, Row, NoChannel, RootFixed, fault_of_remove, number, row_of, is_there, is_below, upward, Rise, AreApart, AreLinks, IsProper, IsUnderLasting, LeadUp, Pair, TreeState}
+use Rattle.mum_tree.proofs.{Find.AllPairs-tail, Find.row_of_at, Find.row_of_none, Upward.the_root, Upward.reverse-cons, Upward.option_cases, Upward.upward_zero, Upward.there_from_lead, Upward.upward_root, Upward.upward_under, Upward.upward_more, Upward.lead_parent, Changed.number_found, Joined.links_filtered}
 
 pub or_swap : (a b c : Bool) → (a || (b || c)) ≡ (b || (a || c))
 or_swap true true c = refl

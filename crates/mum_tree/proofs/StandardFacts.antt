@@ -1,16 +1,5 @@
 -- Trees of channels worked out by hand: what each change leaves, and for what it is refused.
-use Rattle.std.proofs.Common.{◌≡◌, ℕ, true, false, List, [], ◌∷◌, ◌++◌, codes, map, negsuc, Option, Some, None, refl}
-use Rattle.std.specs.Option.{option_map}
-use Rattle.mum_tree.specs.declared.channel.Channel.{Channel}
-use Rattle.mum_tree.specs.declared.channel.ChannelInfo.{ChannelInfo}
-use Rattle.mum_tree.specs.declared.fault.TreeFault.{TreeFault}
-use Rattle.mum_tree.specs.declared.fault.TreeFault.TheVariants.{Count, LinkCount, Nesting, NoChannel, RootFixed, SameName, TemporaryParent, UnderItself}
-use Rattle.mum_tree.specs.Change.{Change, fault_of_edit}
-use Rattle.mum_tree.specs.Places.{first_place}
-use Rattle.mum_tree.specs.Refusals.{fault_of_add, fault_of_link, fault_of_move, fault_of_remove, fault_of_rename, fault_of_unlink, is_full}
-use Rattle.mum_tree.specs.Rows.{is_below, path, row_of, upward}
-use Rattle.mum_tree.specs.State.{below, next_number, partners, plain_info}
-use Rattle.mum_tree.specs.Walks.{is_reached, linked}
+use Rattle.mum_tree.proofs.Common.{◌≡◌, ℕ, true, false, List, [], ◌∷◌, ◌++◌, codes, map, negsuc, Option, Some, None, refl, option_map, Channel, ChannelInfo, TreeFault, Count, LinkCount, Nesting, NoChannel, RootFixed, SameName, TemporaryParent, UnderItself, Change, fault_of_edit, first_place, fault_of_add, fault_of_link, fault_of_move, fault_of_remove, fault_of_rename, fault_of_unlink, is_full, is_below, path, row_of, upward, below, next_number, partners, plain_info, is_reached, linked}
 use Rattle.mum_tree.proofs.Scenes.{Step, at_places, beside, channel, describe, edit, link, linked_to, make, make_temporary, move, nested, number, raise, remove, rename, to_links, to_name, to_parent, to_placement, tree, unchanged, unlink}
 
 abbrev a : List ℕ

@@ -1,19 +1,6 @@
 -- The root alone is a tree.
-use Rattle.std.proofs.Common.{◌≡◌, ℕ, ◌<◌, ◌≤◌, Bool, true, false, cond, eqb, List, [], ◌∷◌, ◌++◌, Some, None, codes, refl, arith, ap, sym, subst, ⊎_elim}
-use Rattle.std.specs.Bool.{IsTrue}
-use Rattle.std.specs.List.{Contains}
-use Rattle.std.specs.Option.{is_some}
-use Rattle.std.proofs.lemmas.Bool.{eqb-true, cases_Bool, false≢true}
-use Rattle.std.proofs.lemmas.List.Elements.{All-cons, All-nil}
-use Rattle.mum_base.specs.declared.number.ChannelId.{ChannelId}
-use Rattle.mum_tree.specs.declared.channel.ChannelInfo.{ChannelInfo}
-use Rattle.mum_tree.specs.declared.channel.Row.{Row}
-use Rattle.mum_tree.specs.declared.channel.TheConstants.{CHANNEL_LIMIT}
-use Rattle.mum_tree.specs.Rows.{number, is_there, upward}
-use Rattle.mum_tree.specs.State.{Pair, root_alone, new_row, plain_info}
-use Rattle.mum_tree.specs.Proper.{IsProper, LeadUp, IsUnderLasting}
-use Rattle.mum_tree.proofs.Joined.{links_none}
-use Rattle.mum_tree.proofs.Upward.{the_root, upward_root}
+use Rattle.mum_tree.proofs.Common.{◌≡◌, ℕ, ◌<◌, ◌≤◌, Bool, true, false, cond, eqb, List, [], ◌∷◌, ◌++◌, Some, None, codes, refl, arith, ap, sym, subst, ⊎_elim, IsTrue, Contains, is_some, eqb-true, cases_Bool, false≢true, All-cons, All-nil, ChannelId, ChannelInfo, Row, CHANNEL_LIMIT, number, is_there, upward, Pair, root_alone, new_row, plain_info, IsProper, LeadUp, IsUnderLasting}
+use Rattle.mum_tree.proofs.{Joined.links_none, Upward.the_root, Upward.upward_root}
 
 abbrev pub root_row : Row
 root_row = new_row 0 the_root the_root (codes "Root") false

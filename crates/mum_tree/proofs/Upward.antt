@@ -1,15 +1,5 @@
 -- The way up from a channel.
-use Rattle.std.proofs.Common.{◌≡◌, ℕ, zero, suc, ◌<◌, ◌-◌, ◌≤◌, true, false, eqb, cond, List, [], ◌∷◌, ◌++◌, Option, Some, None, IfSome, MatchOption, length, reverse, refl, arith, ap, sym, subst, ◌∙◌, append_assoc, ◌⊎◌, inl, inr, ⊎_elim}
-use Rattle.std.specs.Bool.{IsTrue}
-use Rattle.std.specs.List.{All, Contains}
-use Rattle.std.specs.Option.{is_some}
-use Rattle.std.proofs.lemmas.Bool.{eq-eqb, eqb-true, false_from_ne_true, both_ways, cases_Bool}
-use Rattle.std.proofs.lemmas.List.{get_or-reverse, length-append, length-reverse, reverse-append}
-use Rattle.std.proofs.lemmas.List.Elements.{All-cons, All-nil}
-use Rattle.std.proofs.lemmas.Map.Made.{Contains-tail}
-use Rattle.mum_base.specs.declared.number.ChannelId.{ChannelId}
-use Rattle.mum_tree.specs.declared.channel.Row.{Row}
-use Rattle.mum_tree.specs.Rows.{row_of, is_there, path, upward, IsWay}
+use Rattle.mum_tree.proofs.Common.{◌≡◌, ℕ, zero, suc, ◌<◌, ◌-◌, ◌≤◌, true, false, eqb, cond, List, [], ◌∷◌, ◌++◌, Option, Some, None, IfSome, MatchOption, length, reverse, refl, arith, ap, sym, subst, ◌∙◌, append_assoc, ◌⊎◌, inl, inr, ⊎_elim, IsTrue, All, Contains, is_some, eq-eqb, eqb-true, false_from_ne_true, both_ways, cases_Bool, get_or-reverse, length-append, length-reverse, reverse-append, All-cons, All-nil, Contains-tail, ChannelId, Row, row_of, is_there, path, upward, IsWay}
 
 pub upward_at : (rows : List Row) (steps : ℕ) (id : ChannelId) (row : Row) → row_of rows id ≡ Some row → upward rows (suc steps) id ≡ id ∷ cond (eqb id.0 0) [] (upward rows steps row.channel.parent)
 unfolding upward

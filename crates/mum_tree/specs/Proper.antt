@@ -1,12 +1,8 @@
 -- What every tree keeps.
 use Rattle.std.specs.Prelude.{◌≡◌, ◌≢◌, ◌<◌, ◌≤◌, false, List, length, Some, codes, IsTrue}
 use Rattle.std.specs.List.{count_by, All, AllPairs, Contains}
-use Rattle.mum_base.specs.declared.number.ChannelId.{ChannelId}
-use Rattle.mum_base.specs.declared.number.TheConstants.ChannelId.{ROOT}
-use Rattle.mum_tree.specs.declared.channel.Row.{Row}
-use Rattle.mum_tree.specs.declared.channel.TheConstants.{PATH_LIMIT}
-use Rattle.mum_base.specs.declared.number.TheConstants.{PLACES}
-use Rattle.mum_tree.specs.declared.links.TheConstants.{LINK_LIMIT}
+use Rattle.mum_base.specs.declared.number.{ChannelId.ChannelId, TheConstants.ChannelId.ROOT, TheConstants.PLACES}
+use Rattle.mum_tree.specs.declared.{channel.Row.Row, channel.TheConstants.PATH_LIMIT, links.TheConstants.CHANNEL_LINK_LIMIT}
 use Rattle.mum_tree.specs.Rows.{number, row_of, is_there, is_temporary, upward, Rise}
 use Rattle.mum_tree.specs.State.{Ordered, Pair, TreeState, starts_at}
 
@@ -50,7 +46,7 @@ pub record ArePairs (rows : List Row) (links : List Pair) : Type 0 where
 -- links between these channels, of which no channel has too many
 pub record AreLinks (rows : List Row) (links : List Pair) : Type 0 where
   pub pairs : ArePairs rows links
-  pub few_each : (id : ChannelId) → count_by (starts_at id) links ≤ LINK_LIMIT
+  pub few_each : (id : ChannelId) → count_by (starts_at id) links ≤ CHANNEL_LINK_LIMIT
 
 -- what every tree keeps, its limits among it
 pub record IsProper (tree : TreeState) : Type 0 where

@@ -1,12 +1,10 @@
 -- For what each change of a tree is refused: the first cause that applies.
 use Rattle.std.specs.Prelude.{ℕ, ◌==◌, ◌&&◌, ◌||◌, not, nat_le, Bool, List, [], length, Option, Some, None, if◌then◌else◌}
-use Rattle.std.specs.List.{list_any}
-use Rattle.std.specs.Option.{option_map_or}
+use Rattle.std.specs.{List.list_any, Option.option_map_or}
 use Rattle.mum_base.specs.declared.number.ChannelId.{ChannelId}
-use Rattle.mum_tree.specs.declared.channel.TheConstants.{PATH_LIMIT}
-use Rattle.mum_tree.specs.declared.fault.TreeFault.{TreeFault}
+use Rattle.mum_tree.specs.declared.{channel.TheConstants.PATH_LIMIT, fault.TreeFault.TreeFault}
+use Rattle.mum_tree.specs.declared.links.TheConstants.{CHANNEL_LINK_LIMIT}
 use Rattle.mum_tree.specs.declared.fault.TreeFault.TheVariants.{NoChannel, SameName, UnderItself, Nesting, Count, RootFixed, TemporaryParent, LinkCount}
-use Rattle.mum_tree.specs.declared.links.TheConstants.{LINK_LIMIT}
 use Rattle.mum_tree.specs.Rows.{row_of, is_root, is_there, is_temporary, is_taken, is_below, nests, path}
 use Rattle.mum_tree.specs.State.{TreeState, are_linked, partners}
 
@@ -72,7 +70,8 @@ abbrev pub fault_of_link : TreeState → ChannelId → ChannelId → Option Tree
 fault_of_link tree a b =
     if not (is_there tree.channels a && is_there tree.channels b) then Some NoChannel
     else if (a.0 == b.0) || are_linked tree a b then None
-    else if nat_le LINK_LIMIT (length (partners tree a)) || nat_le LINK_LIMIT (length (partners tree b)) then Some LinkCount
+    else if nat_le CHANNEL_LINK_LIMIT (length (partners tree a))
+    || nat_le CHANNEL_LINK_LIMIT (length (partners tree b)) then Some LinkCount
     else None
 
 -- why the removal of a link is refused

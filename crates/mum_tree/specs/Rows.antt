@@ -1,12 +1,9 @@
 -- The rows of a tree: its channels in order of number, each with the place that it keeps.
 use Rattle.std.specs.Prelude.{◌≡◌, ℕ, zero, suc, ◌+◌, ◌<◌, ◌==◌, ◌&&◌, Bool, false, not, nat_lt, List, [], ◌∷◌, ◌++◌, reverse, length, Option, None, is_some, slice_index_or, IfSome, if◌then◌else◌, IsTrue}
 use Rattle.std.specs.List.{find, list_any, position, All, AllPairs}
-use Rattle.std.specs.Option.{option_map_or}
-use Rattle.std.specs.Str.{bytes_eq}
-use Rattle.mum_base.specs.declared.number.ChannelId.{ChannelId}
-use Rattle.mum_base.specs.declared.number.TheConstants.ChannelId.{ROOT}
-use Rattle.mum_tree.specs.declared.channel.Row.{Row}
-use Rattle.mum_tree.specs.declared.channel.TheConstants.{PATH_LIMIT}
+use Rattle.std.specs.{Option.option_map_or, Str.bytes_eq}
+use Rattle.mum_base.specs.declared.number.{ChannelId.ChannelId, TheConstants.ChannelId.ROOT}
+use Rattle.mum_tree.specs.declared.channel.{Row.Row, TheConstants.PATH_LIMIT}
 
 -- the number of the row's channel
 abbrev pub number : Row → ℕ
@@ -54,17 +51,21 @@ level rows top id = position (λ channel. channel.0 == top.0) (upward rows PATH_
 
 -- what is kept at the places of these rows is right
 abbrev pub AreLevels : List Row → ChannelId → List (Option (Option ℕ)) → Type 0
-AreLevels rows top known = All (λ row. IfSome (slice_index_or known row.place None) (λ steps. steps ≡ level rows top row.channel.id)) rows
+AreLevels rows top known =
+    All (λ row. IfSome (slice_index_or known row.place None) (λ steps. steps ≡ level rows top row.channel.id)) rows
 
 -- the row is the moved channel's or below it, and under the parent its path would be too long
 abbrev pub nests : List Row → ChannelId → ChannelId → Row → Bool
 nests rows id parent row =
-    is_below rows id row.channel.id && nat_lt (PATH_LIMIT + length (path rows id)) (length (path rows parent) + 1 + length (path rows row.channel.id))
+    is_below rows id row.channel.id
+    && nat_lt (PATH_LIMIT + length (path rows id))
+    (length (path rows parent) + 1 + length (path rows row.channel.id))
 
 -- the row is of another child of the parent, and has the name; the root is the child of none
 abbrev pub has_name_beside : ChannelId → ChannelId → List ℕ → Row → Bool
 has_name_beside parent id name row =
-    not (is_root row.channel.id) && (row.channel.parent.0 == parent.0) && not (number row == id.0) && bytes_eq row.channel.name name
+    not (is_root row.channel.id) && (row.channel.parent.0 == parent.0) && not (number row == id.0)
+    && bytes_eq row.channel.name name
 
 -- another child of the parent has the name
 abbrev pub is_taken : List Row → ChannelId → ChannelId → List ℕ → Bool

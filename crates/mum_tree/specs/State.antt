@@ -1,14 +1,10 @@
 -- A tree as plain data, and what each change of it leaves.
 use Rattle.std.specs.Prelude.{ℕ, ◌+◌, ◌-◌, ◌^◌, nat_lt, Option, Some, None, ◌==◌, ◌&&◌, ◌||◌, not, Bool, false, List, [], ◌∷◌, ◌++◌, map, pos, codes, if◌then◌else◌, IsTrue}
 use Rattle.std.specs.List.{filter, list_any, AllPairs}
-use Rattle.mum_base.specs.declared.number.ChannelId.{ChannelId}
-use Rattle.mum_base.specs.declared.number.TheConstants.ChannelId.{ROOT}
-use Rattle.mum_tree.specs.declared.channel.Channel.{Channel}
-use Rattle.mum_tree.specs.declared.channel.ChannelInfo.{ChannelInfo}
-use Rattle.mum_tree.specs.declared.channel.Row.{Row}
+use Rattle.mum_base.specs.declared.number.{ChannelId.ChannelId, TheConstants.ChannelId.ROOT}
+use Rattle.mum_tree.specs.declared.channel.{Channel.Channel, ChannelInfo.ChannelInfo, Row.Row}
 use Rattle.mum_tree.specs.declared.channel.TheConstants.{CHANNEL_LIMIT}
-use Rattle.mum_tree.specs.Places.{least_place}
-use Rattle.mum_tree.specs.Rows.{is_below, is_there, number}
+use Rattle.mum_tree.specs.{Places.least_place, Rows.is_below, Rows.is_there, Rows.number}
 
 -- the channels, their links, and what numbers and places depend on
 pub record TreeState : Type 0 where
@@ -51,7 +47,8 @@ with_new tree id parent name temporary = with_row tree (new_row (least_place tre
 
 -- the channel changed, and no other
 abbrev pub changed : ChannelId → (Channel → Channel) → List Row → List Row
-changed id change rows = map (λ row. if number row == id.0 then record row { channel = change row.channel } else row) rows
+changed id change rows =
+    map (λ row. if number row == id.0 then record row { channel = change row.channel } else row) rows
 
 -- one channel changed
 abbrev pub with_channel : TreeState → ChannelId → (Channel → Channel) → TreeState
@@ -108,11 +105,13 @@ Ordered links = AllPairs (λ pair later. IsTrue (is_above pair.0 pair.1 later)) 
 -- a pair in its place among others
 abbrev pub with_pair : ChannelId → ChannelId → List Pair → List Pair
 with_pair from to [] = (from, to) ∷ []
-with_pair from to (pair ∷ pairs) = if is_above from to pair then (from, to) ∷ pair ∷ pairs else pair ∷ with_pair from to pairs
+with_pair from to (pair ∷ pairs) =
+    if is_above from to pair then (from, to) ∷ pair ∷ pairs else pair ∷ with_pair from to pairs
 
 -- a link more, in both directions; one of a channel to itself, or that is there, changes nothing
 abbrev pub pairs_with : ChannelId → ChannelId → List Pair → List Pair
-pairs_with a b pairs = if (a.0 == b.0) || list_any (is_pair a b) pairs then pairs else with_pair b a (with_pair a b pairs)
+pairs_with a b pairs =
+    if (a.0 == b.0) || list_any (is_pair a b) pairs then pairs else with_pair b a (with_pair a b pairs)
 
 -- a link less
 abbrev pub pairs_without : ChannelId → ChannelId → List Pair → List Pair
@@ -141,4 +140,5 @@ without_rows tree kept = record {
 
 -- without a channel and all below it, and without their links
 abbrev pub without_subtree : TreeState → ChannelId → TreeState
-without_subtree tree top = without_rows tree (filter (λ row. not (is_below tree.channels top row.channel.id)) tree.channels)
+without_subtree tree top =
+    without_rows tree (filter (λ row. not (is_below tree.channels top row.channel.id)) tree.channels)

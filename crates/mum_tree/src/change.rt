@@ -19,7 +19,7 @@ pub struct ChannelChange<'a> {
     pub links_remove: &'a [ChannelId],
 }
 
-/// Sets what is given.
+// Sets what is given.
 pub(crate) fn give<T: Drop>(place: &mut T, given: Option<T>)
     ensures { place.new ≡ given_or given place.old }
 {

@@ -23,7 +23,7 @@ pub struct ChannelInfo {
 }
 
 impl ChannelInfo {
-    /// No description, no place among its siblings, no limit of users.
+    // No description, no place among its siblings, no limit of users.
     pub(crate) fn plain(alloc: Global) -> ChannelInfo
         ensures { result ≡ plain_info }
     {

@@ -13,7 +13,7 @@ ghost use Rattle.mum_tree.specs.Proper.{ArePairs};
 ghost use Rattle.mum_tree.specs.Rows.{is_there, Rise};
 
 use crate::channel::Row;
-use crate::links::{LINK_LIMIT, change_links};
+use crate::links::{CHANNEL_LINK_LIMIT, change_links};
 use crate::rows::place_in_rows;
 use crate::scratch::Scratch;
 use mum_base::ChannelId;
@@ -75,7 +75,8 @@ fn unite_linked(numbers: &mut [u16], rows: &[Row], links: &[(ChannelId, ChannelI
     requires whole { length numbers.old ≡ length rows.now }
     requires alone { (k : ℕ) → k < length numbers.old → slice_index_or numbers.old k 0 ≡ k }
     ensures whole { length numbers.new ≡ length numbers.old }
-    ensures united { (first : ℕ → ℕ) × IsForest numbers.new first × AreUnited rows.now links.now (length links.now) first }
+    ensures united { (first : ℕ → ℕ) × IsForest numbers.new first
+        × AreUnited rows.now links.now (length links.now) first }
 {
     for link in links {
         let from = place_in_rows(rows, link.0);
@@ -88,7 +89,8 @@ fn unite_linked(numbers: &mut [u16], rows: &[Row], links: &[(ChannelId, ChannelI
 fn number_by_first(numbers: &mut [u16])
     requires { Descends numbers.old }
     ensures whole { length numbers.new ≡ length numbers.old }
-    ensures numbers { (first : ℕ → ℕ) (k : ℕ) → IsForest numbers.old first → k < length numbers.old → slice_index_or numbers.new k 0 ≡ first k }
+    ensures numbers { (first : ℕ → ℕ) (k : ℕ) → IsForest numbers.old first → k < length numbers.old
+        → slice_index_or numbers.new k 0 ≡ first k }
 {
     for at in 0..numbers.len() {
         numbers[at] = numbers[numbers[at] as usize];
@@ -108,7 +110,7 @@ fn number_rows(numbers: &mut [u16], rows: &[Row], links: &[(ChannelId, ChannelId
     number_by_first(numbers);
 }
 
-/// Numbers the components of these channels after a change of their links.
+// Numbers the components of these channels after a change of their links.
 pub(crate) fn number_components(
     numbers: &mut Vec<u16>,
     rows: &[Row],
@@ -123,26 +125,26 @@ pub(crate) fn number_components(
     number_rows(numbers, rows, links);
 }
 
-/// Whether no link comes and none goes.
+// Whether no link comes and none goes.
 pub(crate) fn names_no_links(adds: &[ChannelId], removes: &[ChannelId]) -> bool
     ensures { result ≡ ((length adds.now == 0) && (length removes.now == 0)) }
 {
     adds.is_empty() && removes.is_empty()
 }
 
-/// The pairs for which a change of links needs room: those of as many links as a channel may have.
+// The pairs for which a change of links needs room: those of as many links as a channel may have.
 pub(crate) fn link_room(adds: &[ChannelId], removes: &[ChannelId]) -> usize
-    ensures { result ≡ (if (length adds.now == 0) && (length removes.now == 0) then 0 else 2 * LINK_LIMIT) }
+    ensures { result ≡ (if (length adds.now == 0) && (length removes.now == 0) then 0 else 2 * CHANNEL_LINK_LIMIT) }
 {
     if names_no_links(adds, removes) {
         0
     } else {
-        2 * LINK_LIMIT
+        2 * CHANNEL_LINK_LIMIT
     }
 }
 
-/// Links a channel to some, then unlinks it from others, and numbers the components after that.
-/// There is room.
+// Links a channel to some, then unlinks it from others, and numbers the components after that.
+// There is room.
 pub(crate) fn relink(
     links: &mut Vec<(ChannelId, ChannelId)>,
     numbers: &mut Vec<u16>,
@@ -162,8 +164,10 @@ pub(crate) fn relink(
     requires removed { IsTrue (list_all (is_there rows.now) removes.now) }
     requires partners { count_by (λ row. (list_any (is_pair id row.channel.id) links.old.items
         || (is_among adds.now row.channel.id && not (row.channel.id.0 == id.0)))
-        && not (is_among removes.now row.channel.id)) rows.now ≤ LINK_LIMIT }
-    requires room { vec_len links.old + (if (length adds.now == 0) && (length removes.now == 0) then 0 else 2 * LINK_LIMIT) ≤ vec_capacity links.old }
+        && not (is_among removes.now row.channel.id)) rows.now ≤ CHANNEL_LINK_LIMIT }
+    requires room { vec_len links.old
+        + (if (length adds.now == 0) && (length removes.now == 0) then 0 else 2 * CHANNEL_LINK_LIMIT)
+        ≤ vec_capacity links.old }
     ensures made { links.new.items ≡ pairs_without_all id removes.now (pairs_with_all id adds.now links.old.items) }
     ensures numbered { AreComponents rows.now links.new.items numbers.new.items }
 {
@@ -174,7 +178,7 @@ pub(crate) fn relink(
     number_components(numbers, rows, links);
 }
 
-/// Marks the channels whose rows have the number of this row.
+// Marks the channels whose rows have the number of this row.
 pub(crate) fn mark_component(rows: &[Row], numbers: &[u16], at: usize, scratch: &mut Scratch)
     requires rise { Rise rows.now }
     requires few { length rows.now ≤ PLACES }

@@ -12,7 +12,7 @@ use crate::rows::{path_length, place_in_rows};
 use crate::scratch::Scratch;
 use mum_base::{ChannelId, PLACES};
 
-/// One step more.
+// One step more.
 fn one_further(level: Option<u8>) -> Option<u8>
     requires { IfSome level (λ steps. steps < PATH_LIMIT) }
     ensures { result ≡ option_map (λ steps. steps + 1) level }
@@ -23,8 +23,8 @@ fn one_further(level: Option<u8>) -> Option<u8>
     }
 }
 
-/// How many steps the channel of a row is under the top, if it is the top or below it. What is
-/// found on the way up is kept, by place, and what is kept is not looked for again.
+// How many steps the channel of a row is under the top, if it is the top or below it. What is
+// found on the way up is kept, by place, and what is kept is not looked for again.
 fn find_level(
     rows: &[Row],
     top: ChannelId,
@@ -58,14 +58,15 @@ fn find_level(
     level
 }
 
-/// Marks a channel and all below it. The parent of each channel is looked up at most once.
+// Marks a channel and all below it. The parent of each channel is looked up at most once.
 pub(crate) fn mark_below(rows: &[Row], top: ChannelId, scratch: &mut Scratch)
     requires rise { Rise rows.now }
     requires lead { LeadUp rows.now }
     requires few { length rows.now ≤ PLACES }
     requires places_fit { All (λ row. row.place < PLACES) rows.now }
     requires places_apart { AllPairs (λ row other. row.place ≢ other.place) rows.now }
-    ensures { scratch.new ≡ map (λ row. row.channel.id) (filter (λ row. is_below rows.now top row.channel.id) rows.now) }
+    ensures { scratch.new
+        ≡ map (λ row. row.channel.id) (filter (λ row. is_below rows.now top row.channel.id) rows.now) }
 {
     let mut known = [None; PLACES];
     scratch.clear();
@@ -75,7 +76,7 @@ pub(crate) fn mark_below(rows: &[Row], top: ChannelId, scratch: &mut Scratch)
     }
 }
 
-/// Finds the places of the channels that are the top, or below it.
+// Finds the places of the channels that are the top, or below it.
 pub(crate) fn places_below(rows: &[Row], top: ChannelId, below: &mut [bool])
     requires rise { Rise rows.now }
     requires lead { LeadUp rows.now }
@@ -83,7 +84,8 @@ pub(crate) fn places_below(rows: &[Row], top: ChannelId, below: &mut [bool])
     requires places_apart { AllPairs (λ row other. row.place ≢ other.place) rows.now }
     requires room { length below.old ≡ PLACES }
     ensures length { length below.new ≡ PLACES }
-    ensures value { All (λ row. slice_index_or below.new row.place false ≡ is_below rows.now top row.channel.id) rows.now }
+    ensures value { All
+        (λ row. slice_index_or below.new row.place false ≡ is_below rows.now top row.channel.id) rows.now }
 {
     let mut known = [None; PLACES];
     for (at, row) in rows.iter().enumerate() {
@@ -92,8 +94,8 @@ pub(crate) fn places_below(rows: &[Row], top: ChannelId, below: &mut [bool])
     }
 }
 
-/// Whether a channel at this level under the moved one is too deep once that one is under a channel
-/// with this many channels on its path.
+// Whether a channel at this level under the moved one is too deep once that one is under a channel
+// with this many channels on its path.
 fn is_too_deep(level: Option<u8>, above: usize) -> bool
     requires { above ≤ PATH_LIMIT }
     ensures { result ≡ option_map_or (λ steps. nat_lt PATH_LIMIT (above + 1 + steps)) level false }
@@ -104,7 +106,7 @@ fn is_too_deep(level: Option<u8>, above: usize) -> bool
     }
 }
 
-/// Whether a channel under this one would be too deep once this one is under the parent.
+// Whether a channel under this one would be too deep once this one is under the parent.
 pub(crate) fn nests_too_deep(rows: &[Row], id: ChannelId, parent: ChannelId) -> bool
     requires rise { Rise rows.now }
     requires lead { LeadUp rows.now }

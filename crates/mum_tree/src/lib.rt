@@ -17,6 +17,6 @@ mod tree;
 pub use change::ChannelChange;
 pub use channel::{CHANNEL_LIMIT, Channel, ChannelInfo, PATH_LIMIT, Row};
 pub use fault::TreeFault;
-pub use links::LINK_LIMIT;
+pub use links::CHANNEL_LINK_LIMIT;
 pub use scratch::Scratch;
 pub use tree::Tree;

@@ -15,9 +15,9 @@ use crate::rows::{both_there, has_mark, places_of};
 use mum_base::{ChannelId, PLACES};
 
 /// The most links of a channel.
-pub const LINK_LIMIT: usize = 64;
+pub const CHANNEL_LINK_LIMIT: usize = 64;
 
-/// Whether two channels are linked.
+// Whether two channels are linked.
 pub(crate) fn has_link(links: &[(ChannelId, ChannelId)], from: ChannelId, to: ChannelId) -> bool
     requires { Ordered links.now }
     ensures { result ≡ list_any (is_pair from to) links.now }
@@ -25,24 +25,25 @@ pub(crate) fn has_link(links: &[(ChannelId, ChannelId)], from: ChannelId, to: Ch
     links.binary_search(&(from, to)).is_ok()
 }
 
-/// Whether a link is between these two channels.
+// Whether a link is between these two channels.
 pub(crate) fn joins(link: &(ChannelId, ChannelId), a: ChannelId, b: ChannelId) -> bool
     ensures { result ≡ (is_pair a b link.now || is_pair b a link.now) }
 {
     (link.0.0 == a.0 && link.1.0 == b.0) || (link.0.0 == b.0 && link.1.0 == a.0)
 }
 
-/// Where the pairs of a channel begin.
+// Where the pairs of a channel begin.
 pub(crate) fn first_link(links: &[(ChannelId, ChannelId)], from: ChannelId) -> usize
     requires { Ordered links.now }
     ensures within { result ≤ length links.now }
     ensures before { (k : ℕ) (other : Pair) → k < result → (slice_index_or links.now k other).0.0 < from.0 }
-    ensures after { (k : ℕ) (other : Pair) → result ≤ k → k < length links.now → from.0 ≤ (slice_index_or links.now k other).0.0 }
+    ensures after { (k : ℕ) (other : Pair) → result ≤ k → k < length links.now
+        → from.0 ≤ (slice_index_or links.now k other).0.0 }
 {
     links.partition_point(|link| link.0.0 < from.0)
 }
 
-/// The pairs of a channel.
+// The pairs of a channel.
 fn links_of(links: &[(ChannelId, ChannelId)], of: ChannelId) -> &[(ChannelId, ChannelId)]
     requires { Ordered links.now }
     ensures { result.now ≡ filter (starts_at of) links.now }
@@ -51,15 +52,15 @@ fn links_of(links: &[(ChannelId, ChannelId)], of: ChannelId) -> &[(ChannelId, Ch
     &rest[..rest.partition_point(|link| link.0.0 == of.0)]
 }
 
-/// Whether a channel has as many links as it may have.
+// Whether a channel has as many links as it may have.
 pub(crate) fn is_crowded(links: &[(ChannelId, ChannelId)], of: ChannelId) -> bool
     requires { Ordered links.now }
-    ensures { result ≡ nat_le LINK_LIMIT (length (ends_from of links.now)) }
+    ensures { result ≡ nat_le CHANNEL_LINK_LIMIT (length (ends_from of links.now)) }
 {
-    links_of(links, of).len() >= LINK_LIMIT
+    links_of(links, of).len() >= CHANNEL_LINK_LIMIT
 }
 
-/// The channel linked to one at this index in order of number.
+// The channel linked to one at this index in order of number.
 pub(crate) fn nth_end(
     links: &[(ChannelId, ChannelId)],
     of: ChannelId,
@@ -71,17 +72,18 @@ pub(crate) fn nth_end(
     links_of(links, of).get(i).map(|link| link.1)
 }
 
-/// Where a new link belongs: before the first that is above it.
+// Where a new link belongs: before the first that is above it.
 pub(crate) fn place_for(links: &[(ChannelId, ChannelId)], from: ChannelId, to: ChannelId) -> usize
     requires { Ordered links.now }
     ensures within { result ≤ length links.now }
     ensures before { (k : ℕ) (other : Pair) → k < result → is_above from to (slice_index_or links.now k other) ≡ false }
-    ensures here { (other : Pair) → result < length links.now → is_above from to (slice_index_or links.now result other) ≡ true }
+    ensures here { (other : Pair) → result < length links.now
+        → is_above from to (slice_index_or links.now result other) ≡ true }
 {
     links.partition_point(|link| *link <= (from, to))
 }
 
-/// Puts a link between two channels in its place. There is room for it.
+// Puts a link between two channels in its place. There is room for it.
 pub(crate) fn put_link(links: &mut Vec<(ChannelId, ChannelId)>, a: ChannelId, b: ChannelId)
     requires ordered { Ordered links.old.items }
     requires unlinked { list_any (is_pair a b) links.old.items ≡ false }
@@ -96,7 +98,7 @@ pub(crate) fn put_link(links: &mut Vec<(ChannelId, ChannelId)>, a: ChannelId, b:
     links.insert(at, (b, a)).unwrap();
 }
 
-/// Links two channels, if they are two and are not linked yet. There is room for it.
+// Links two channels, if they are two and are not linked yet. There is room for it.
 fn join(links: &mut Vec<(ChannelId, ChannelId)>, a: ChannelId, b: ChannelId)
     requires ordered { Ordered links.old.items }
     requires both { AreBothWays links.old.items }
@@ -113,7 +115,7 @@ fn join(links: &mut Vec<(ChannelId, ChannelId)>, a: ChannelId, b: ChannelId)
     put_link(links, a, b);
 }
 
-/// Removes the link between two channels, if there is one.
+// Removes the link between two channels, if there is one.
 pub(crate) fn take_link(links: &mut Vec<(ChannelId, ChannelId)>, a: ChannelId, b: ChannelId)
     requires ordered { Ordered links.old.items }
     requires both { AreBothWays links.old.items }
@@ -139,9 +141,11 @@ fn set_link(
 )
     requires ordered { Ordered links.old.items }
     requires both { AreBothWays links.old.items }
-    requires room { IsTrue (not goes && (comes && not (other.0 == id.0))) → vec_len links.old + 2 ≤ vec_capacity links.old }
+    requires room { IsTrue (not goes && (comes && not (other.0 == id.0)))
+        → vec_len links.old + 2 ≤ vec_capacity links.old }
     ensures made { links.new.items ≡ pairs_set id other comes goes links.old.items }
-    ensures len { vec_len links.new ≤ vec_len links.old + (if not goes && (comes && not (other.0 == id.0)) then 2 else 0) }
+    ensures len { vec_len links.new
+        ≤ vec_len links.old + (if not goes && (comes && not (other.0 == id.0)) then 2 else 0) }
     ensures capacity { vec_capacity links.old ≤ vec_capacity links.new }
 {
     if goes {
@@ -153,8 +157,8 @@ fn set_link(
     }
 }
 
-/// Links a channel to some and then unlinks it from others. There is room for as many links as a
-/// channel may have.
+// Links a channel to some and then unlinks it from others. There is room for as many links as a
+// channel may have.
 pub(crate) fn change_links(
     links: &mut Vec<(ChannelId, ChannelId)>,
     rows: &[Row],
@@ -171,8 +175,8 @@ pub(crate) fn change_links(
     requires removed { IsTrue (list_all (is_there rows.now) removes.now) }
     requires few { count_by (λ row. (list_any (is_pair id row.channel.id) links.old.items
         || (is_among adds.now row.channel.id && not (row.channel.id.0 == id.0)))
-        && not (is_among removes.now row.channel.id)) rows.now ≤ LINK_LIMIT }
-    requires room { vec_len links.old + 2 * LINK_LIMIT ≤ vec_capacity links.old }
+        && not (is_among removes.now row.channel.id)) rows.now ≤ CHANNEL_LINK_LIMIT }
+    requires room { vec_len links.old + 2 * CHANNEL_LINK_LIMIT ≤ vec_capacity links.old }
     ensures made { links.new.items ≡ pairs_without_all id removes.now (pairs_with_all id adds.now links.old.items) }
     ensures pairs { ArePairs rows.now links.new.items }
 {
@@ -187,7 +191,7 @@ pub(crate) fn change_links(
     }
 }
 
-/// Removes the links of channels that are not there.
+// Removes the links of channels that are not there.
 pub(crate) fn keep_ends(links: &mut Vec<(ChannelId, ChannelId)>, rows: &[Row])
     requires { Rise rows.now }
     ensures { links.new.items ≡ filter (λ pair. is_there rows.now pair.0 && is_there rows.now pair.1) links.old.items }

@@ -14,17 +14,18 @@ use arrayvec::ArrayVec;
 use mum_base::{ChannelId, OutOfMemory, PLACES};
 use std::alloc::Global;
 
-/// The index of the row of a channel.
+// The index of the row of a channel.
 pub(crate) fn locate(rows: &[Row], id: ChannelId) -> Option<usize>
     requires { Rise rows.now }
     ensures { MatchOption result (row_of rows.now id ≡ None)
-        (λ at. (at < length rows.now) × ((other : Row) → row_of rows.now id ≡ Some (slice_index_or rows.now at other))) }
+        (λ at. (at < length rows.now)
+        × ((other : Row) → row_of rows.now id ≡ Some (slice_index_or rows.now at other))) }
 {
     rows.binary_search_by_key(&id.0, |row| row.channel.id.0)
         .ok()
 }
 
-/// The index of the row of a channel that is there.
+// The index of the row of a channel that is there.
 pub(crate) fn place_in_rows(rows: &[Row], id: ChannelId) -> usize
     requires rise { Rise rows.now }
     requires there { IsTrue (is_there rows.now id) }
@@ -37,7 +38,7 @@ pub(crate) fn place_in_rows(rows: &[Row], id: ChannelId) -> usize
     }
 }
 
-/// The row of a channel.
+// The row of a channel.
 pub(crate) fn find_row(rows: &[Row], id: ChannelId) -> Option<&Row>
     requires { Rise rows.now }
     ensures value { option_copied result ≡ row_of rows.now id }
@@ -49,7 +50,7 @@ pub(crate) fn find_row(rows: &[Row], id: ChannelId) -> Option<&Row>
     }
 }
 
-/// Whether a channel is there.
+// Whether a channel is there.
 pub(crate) fn is_there(rows: &[Row], id: ChannelId) -> bool
     requires { Rise rows.now }
     ensures { result ≡ is_there rows.now id }
@@ -57,7 +58,7 @@ pub(crate) fn is_there(rows: &[Row], id: ChannelId) -> bool
     find_row(rows, id).is_some()
 }
 
-/// Whether two channels are there.
+// Whether two channels are there.
 pub(crate) fn both_there(rows: &[Row], a: ChannelId, b: ChannelId) -> bool
     requires { Rise rows.now }
     ensures { result ≡ (is_there rows.now a && is_there rows.now b) }
@@ -65,7 +66,7 @@ pub(crate) fn both_there(rows: &[Row], a: ChannelId, b: ChannelId) -> bool
     is_there(rows, a) && is_there(rows, b)
 }
 
-/// Whether all these channels are there.
+// Whether all these channels are there.
 pub(crate) fn all_there(rows: &[Row], ids: &[ChannelId]) -> bool
     requires { Rise rows.now }
     ensures { result ≡ list_all (is_there rows.now) ids.now }
@@ -73,7 +74,7 @@ pub(crate) fn all_there(rows: &[Row], ids: &[ChannelId]) -> bool
     ids.iter().all(|id| is_there(rows, *id))
 }
 
-/// Whether a channel is there and is temporary.
+// Whether a channel is there and is temporary.
 pub(crate) fn is_temporary_there(rows: &[Row], id: ChannelId) -> bool
     requires { Rise rows.now }
     ensures { result ≡ is_temporary rows.now id }
@@ -84,7 +85,7 @@ pub(crate) fn is_temporary_there(rows: &[Row], id: ChannelId) -> bool
     }
 }
 
-/// The channels from the root down to one.
+// The channels from the root down to one.
 pub(crate) fn find_path(rows: &[Row], id: ChannelId) -> Option<ArrayVec<ChannelId, PATH_LIMIT>>
     requires rise { Rise rows.now }
     requires lead { LeadUp rows.now }
@@ -107,7 +108,7 @@ pub(crate) fn find_path(rows: &[Row], id: ChannelId) -> Option<ArrayVec<ChannelI
     unreachable!()
 }
 
-/// How many steps a channel is under the top, if it is the top or below it.
+// How many steps a channel is under the top, if it is the top or below it.
 pub(crate) fn steps_under(rows: &[Row], top: ChannelId, id: ChannelId) -> Option<usize>
     requires { Rise rows.now }
     ensures value { result ≡ level rows.now top id }
@@ -129,7 +130,7 @@ pub(crate) fn steps_under(rows: &[Row], top: ChannelId, id: ChannelId) -> Option
     None
 }
 
-/// How many channels there are from the root down to one, with both.
+// How many channels there are from the root down to one, with both.
 pub(crate) fn path_length(rows: &[Row], id: ChannelId) -> usize
     requires rise { Rise rows.now }
     requires lead { LeadUp rows.now }
@@ -142,7 +143,7 @@ pub(crate) fn path_length(rows: &[Row], id: ChannelId) -> usize
     }
 }
 
-/// Whether a channel is the top, or below it.
+// Whether a channel is the top, or below it.
 pub(crate) fn is_at_or_below(rows: &[Row], top: ChannelId, id: ChannelId) -> bool
     requires { Rise rows.now }
     ensures { result ≡ is_below rows.now top id }
@@ -150,7 +151,7 @@ pub(crate) fn is_at_or_below(rows: &[Row], top: ChannelId, id: ChannelId) -> boo
     steps_under(rows, top, id).is_some()
 }
 
-/// Whether another child of the parent has the name.
+// Whether another child of the parent has the name.
 pub(crate) fn has_name(rows: &[Row], parent: ChannelId, id: ChannelId, name: &str) -> bool
     ensures { result ≡ is_taken rows.now parent id name.now }
 {
@@ -171,7 +172,7 @@ fn clear(marks: &mut [bool])
     marks.fill(false);
 }
 
-/// Finds which places have a channel.
+// Finds which places have a channel.
 pub(crate) fn taken_places(rows: &[Row], taken: &mut [bool])
     requires places_fit { All (λ row. row.place < PLACES) rows.now }
     requires room { length taken.old ≡ PLACES }
@@ -186,7 +187,7 @@ pub(crate) fn taken_places(rows: &[Row], taken: &mut [bool])
     }
 }
 
-/// Finds which places have one of these channels.
+// Finds which places have one of these channels.
 pub(crate) fn places_of(rows: &[Row], ids: &[ChannelId], marks: &mut [bool])
     requires rise { Rise rows.now }
     requires places_fit { All (λ row. row.place < PLACES) rows.now }
@@ -203,7 +204,7 @@ pub(crate) fn places_of(rows: &[Row], ids: &[ChannelId], marks: &mut [bool])
     }
 }
 
-/// Whether a place is marked.
+// Whether a place is marked.
 pub(crate) fn has_mark(marks: &[bool], place: u16) -> bool
     ensures { result ≡ slice_index_or marks.now place false }
 {
@@ -213,7 +214,7 @@ pub(crate) fn has_mark(marks: &[bool], place: u16) -> bool
     }
 }
 
-/// The least place that no channel has.
+// The least place that no channel has.
 pub(crate) fn least_free_place(rows: &[Row]) -> u16
     requires places_fit { All (λ row. row.place < PLACES) rows.now }
     requires room { length rows.now < PLACES }
@@ -230,7 +231,7 @@ pub(crate) fn least_free_place(rows: &[Row]) -> u16
     unreachable!()
 }
 
-/// A copy of the rows.
+// A copy of the rows.
 pub(crate) fn copy_rows(alloc: Global, rows: &[Row]) -> Result<Vec<Row>, OutOfMemory>
     ensures { IfOk result (λ copy. copy.items ≡ rows.now) }
 {

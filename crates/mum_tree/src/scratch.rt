@@ -52,14 +52,14 @@ impl Scratch {
         marked.binary_search_by_key(&id.0, |one| one.0).is_ok()
     }
 
-    /// Marks no channel.
+    // Marks no channel.
     pub(crate) fn clear(&mut self)
         ensures { self.new ≡ [] }
     {
         self.count = 0;
     }
 
-    /// Marks a channel above all that are marked, if it holds.
+    // Marks a channel above all that are marked, if it holds.
     pub(crate) fn mark_if(&mut self, id: ChannelId, holds: bool)
         requires room { length self.old < PLACES }
         requires above { All (λ one. one.0 < id.0) self.old }

@@ -19,7 +19,9 @@ use crate::channel::{CHANNEL_LIMIT, Channel, ChannelInfo, PATH_LIMIT, Row};
 use crate::components::{link_room, mark_component, number_components, relink};
 use crate::fault::TreeFault;
 use crate::levels::{mark_below, nests_too_deep, places_below};
-use crate::links::{LINK_LIMIT, has_link, is_crowded, keep_ends, nth_end, put_link, take_link};
+use crate::links::{
+    CHANNEL_LINK_LIMIT, has_link, is_crowded, keep_ends, nth_end, put_link, take_link,
+};
 use crate::rows::{
     all_there, both_there, copy_rows, find_path, find_row, has_mark, has_name, is_at_or_below,
     is_temporary_there, is_there, least_free_place, locate, path_length, place_in_rows, places_of,
@@ -60,7 +62,7 @@ impl Model for Tree {
     } };
 }
 
-/// One if it holds, else nothing.
+// One if it holds, else nothing.
 fn one_if(holds: bool) -> usize
     ensures { result ≡ (if holds then 1 else 0) }
 {
@@ -155,7 +157,8 @@ impl Tree {
 
     /// The channels from the root down to one, with both. It takes no memory.
     pub fn path(&self, id: ChannelId) -> Option<ArrayVec<ChannelId, PATH_LIMIT>>
-        ensures value { MatchOption result (row_of self.now.channels id ≡ None) (λ found. found.items ≡ path self.now.channels id) }
+        ensures value { MatchOption result (row_of self.now.channels id ≡ None)
+            (λ found. found.items ≡ path self.now.channels id) }
         ensures there { is_some result ≡ is_there self.now.channels id }
         ensures way { IfSome result (λ found. IsWay self.now.channels id found.items) }
     {
@@ -231,7 +234,7 @@ impl Tree {
         Ok(())
     }
 
-    /// The first cause for which a new name is refused.
+    // The first cause for which a new name is refused.
     fn cause_against_renaming(&self, id: ChannelId, name: &str) -> Option<TreeFault>
         ensures { result ≡ fault_of_rename self.now id name.now }
     {
@@ -306,7 +309,7 @@ impl Tree {
         Ok(())
     }
 
-    /// The first cause for which a link is refused.
+    // The first cause for which a link is refused.
     fn cause_against_linking(&self, a: ChannelId, b: ChannelId) -> Option<TreeFault>
         ensures { result ≡ fault_of_link self.now a b }
     {
@@ -341,7 +344,7 @@ impl Tree {
         Ok(())
     }
 
-    /// The first cause against a new name or a new parent of a channel, given both.
+    // The first cause against a new name or a new parent of a channel, given both.
     fn cause_against_placement(
         &self,
         id: ChannelId,
@@ -369,7 +372,7 @@ impl Tree {
         None
     }
 
-    /// The first cause for which a move is refused.
+    // The first cause for which a move is refused.
     fn cause_against_moving(&self, id: ChannelId, parent: ChannelId) -> Option<TreeFault>
         ensures { result ≡ fault_of_move self.now id parent }
     {
@@ -401,7 +404,7 @@ impl Tree {
         Ok(())
     }
 
-    /// Whether after a change of its links a channel has too many, or a new partner of it has.
+    // Whether after a change of its links a channel has too many, or a new partner of it has.
     fn overlinks(&self, id: ChannelId, change: &ChannelChange<'_>) -> bool
         requires added { IsTrue (list_all (is_there self.now.channels) change.now.links_add.now) }
         requires removed { IsTrue (list_all (is_there self.now.channels) change.now.links_remove.now) }
@@ -426,7 +429,7 @@ impl Tree {
             }
             partners += one_if(after);
         }
-        partners > LINK_LIMIT
+        partners > CHANNEL_LINK_LIMIT
     }
 
     /// The first cause for which a change of a channel is refused, as `edit` names them. It takes no

@@ -1,32 +1,6 @@
 -- What a change of a session leaves of listeners, and how many.
-use Rattle.std.proofs.Common.{◌≡◌, ℕ, zero, suc, ◌+◌, ◌-◌, ◌<◌, ◌≤◌, Bool, true, false, not, cond, eqb, leb, ltb, ◌&&◌, ◌||◌, List, [], ◌∷◌, length, get_or, set, take, drop, drop-cons, filter, map, Some, None, refl, sym, ap, subst, ◌∙◌, arith}
-use Rattle.std.proofs.Common.{inl, inr}
-use Rattle.std.specs.List.{count_by, list_any, position}
-use Rattle.std.proofs.lemmas.Bool.{cases_Bool, eqb-true, false≢true, le-ltb, ltb-false, or_parts}
-use Rattle.std.proofs.lemmas.Bool.Decides.{nat_tests}
-use Rattle.std.proofs.lemmas.List.{take_rest}
-use Rattle.std.proofs.lemmas.Map.Views.{any-filter_same}
-use Rattle.mum_base.specs.declared.number.SessionId.{SessionId}
-use Rattle.mum_base.specs.declared.number.ChannelId.{ChannelId}
-use Rattle.mum_users.specs.declared.listening.ListenerPair.{ListenerPair}
-use Rattle.mum_users.specs.declared.listening.TheConstants.{CHANNEL_LISTENERS, LISTENED_CHANNELS}
-use Rattle.mum_users.specs.declared.listening.PairOrder.TheVariants.{BySession}
-use Rattle.mum_users.specs.declared.user.User.{User}
-use Rattle.mum_users.specs.declared.fault.UserFault.TheVariants.{NoSession, ListenerLimit, UserListenerLimit}
-use Rattle.mum_users.specs.Sessions.{changed}
-use Rattle.mum_base.specs.Channels.{is_among}
-use Rattle.mum_users.specs.Edit.{UserEdit, changed_user, edit_fault, edited, is_crowded, pairs_after, staying, with_channels}
-use Rattle.mum_users.specs.Listeners.{pair_below, with_pair}
-use Rattle.mum_users.specs.Order.{Rises}
-use Rattle.mum_users.specs.Proper.{IsProper}
-use Rattle.mum_users.specs.State.{RosterState, has_number, is_of_channel, is_of_session, is_pair}
-use Rattle.mum_users.proofs.Counts.{count_by-cons, count_by-filter-le, count_by-filter_others, count_by-map}
-use Rattle.mum_users.proofs.Orders.{Rises-filter}
-use Rattle.mum_users.proofs.Pairs.{Rises-put}
-use Rattle.mum_users.proofs.PairCounts.{count-put, count-put_other}
-use Rattle.mum_users.proofs.Places.{absent_from, present_from}
-use Rattle.mum_users.proofs.Rosters.{IsProper-changed, apart_from, set-changed}
-use Rattle.mum_users.proofs.Silence.{changed_user_keeps}
+use Rattle.mum_users.proofs.Common.{◌≡◌, ℕ, zero, suc, ◌+◌, ◌-◌, ◌<◌, ◌≤◌, Bool, true, false, not, cond, eqb, leb, ltb, ◌&&◌, ◌||◌, List, [], ◌∷◌, length, get_or, set, take, drop, drop-cons, filter, map, Some, None, refl, sym, ap, subst, ◌∙◌, arith, inl, inr, count_by, list_any, position, cases_Bool, eqb-true, false≢true, le-ltb, ltb-false, or_parts, nat_tests, take_rest, any-filter_same, SessionId, ChannelId, ListenerPair, CHANNEL_LISTENERS, LISTENED_CHANNELS, BySession, User, NoSession, ListenerLimit, UserListenerLimit, changed, is_among, UserEdit, changed_user, edit_fault, edited, is_crowded, pairs_after, staying, with_channels, pair_below, with_pair, Rises, IsProper, RosterState, has_number, is_of_channel, is_of_session, is_pair}
+use Rattle.mum_users.proofs.{Counts.count_by-cons, Counts.count_by-filter-le, Counts.count_by-filter_others, Counts.count_by-map, Orders.Rises-filter, Pairs.Rises-put, PairCounts.count-put, PairCounts.count-put_other, Places.absent_from, Places.present_from, Rosters.IsProper-changed, Rosters.apart_from, Rosters.set-changed, Silence.changed_user_keeps}
 
 -- ---- one pair
 

@@ -1,13 +1,6 @@
 -- Pairs in two orders stay the same pairs.
-use Rattle.std.proofs.Common.{◌≡◌, Bool, true, false, cond, List, [], ◌∷◌, refl, sym, ap, ◌∙◌}
-use Rattle.std.specs.List.{filter}
-use Rattle.mum_base.specs.declared.number.ChannelId.{ChannelId}
-use Rattle.mum_users.specs.declared.listening.ListenerPair.{ListenerPair}
-use Rattle.mum_users.specs.declared.listening.PairOrder.TheVariants.{BySession, ByChannel}
-use Rattle.mum_users.specs.Listeners.{IsIndexed, channel_below, pair_below, with_pair}
-use Rattle.mum_users.specs.State.{is_of_channel}
-use Rattle.mum_users.proofs.Orders.{Rises-filter}
-use Rattle.mum_users.proofs.Pairs.{Rises-put, agree, filter-put, same_channel}
+use Rattle.mum_users.proofs.Common.{◌≡◌, Bool, true, false, cond, List, [], ◌∷◌, refl, sym, ap, ◌∙◌, filter, ChannelId, ListenerPair, BySession, ByChannel, IsIndexed, channel_below, pair_below, with_pair, is_of_channel}
+use Rattle.mum_users.proofs.{Orders.Rises-filter, Pairs.Rises-put, Pairs.agree, Pairs.filter-put, Pairs.same_channel}
 
 pub filter-swap : {X : Type 0} (p q : X → Bool) (xs : List X) → filter p (filter q xs) ≡ filter q (filter p xs)
 filter-swap p q [] = refl

@@ -1,3 +1,5 @@
+mod Common
+pub mod Public
 pub mod Counts
 pub mod Places
 pub mod Slots

@@ -1,21 +1,6 @@
 -- The masks of listeners, where one session listens to more channels, to fewer, or goes.
-use Rattle.std.proofs.Common.{◌≡◌, ℕ, ◌/◌, ◌%◌, ◌≤◌, Bool, true, false, ◌&&◌, ◌||◌, not, cond, eqb, List, [], ◌∷◌, Some, refl, sym, ap, ◌∙◌, arith}
-use Rattle.std.specs.Int.{bit_at}
-use Rattle.std.specs.List.{count_by, filter, find, insert, list_any}
-use Rattle.std.proofs.lemmas.Bool.{eqb-true}
-use Rattle.std.proofs.lemmas.Nat.Bits.{bit_at-zero}
-use Rattle.mum_base.specs.declared.number.ChannelId.{ChannelId}
-use Rattle.mum_base.specs.declared.number.SessionId.{SessionId}
-use Rattle.mum_users.specs.declared.masks.MaskRow.{MaskRow}
-use Rattle.mum_users.specs.declared.listening.ListenerPair.{ListenerPair}
-use Rattle.mum_users.specs.declared.user.User.{User}
-use Rattle.mum_users.specs.SlotMasks.{AreMasks, is_mask, is_mask_of, mask_at, mask_below, with_pairs, with_slot, without_pairs, without_slot}
-use Rattle.mum_users.specs.Proper.{SlotsRise}
-use Rattle.mum_users.specs.State.{has_number, is_of_channel, is_of_session, is_pair}
-use Rattle.mum_users.proofs.Counts.{count_by-filter-le}
-use Rattle.mum_users.proofs.Orders.{Rises-filter}
-use Rattle.mum_users.proofs.MaskSets.{AreMasks-with_slot, AreMasks-without_slot}
-use Rattle.mum_users.proofs.Members.{AreMasks-same, AreMasks-with_pairs, AreMasks-without_pairs, among, among_others, any-insert, any_split, none_here, others}
+use Rattle.mum_users.proofs.Common.{◌≡◌, ℕ, ◌/◌, ◌%◌, ◌≤◌, Bool, true, false, ◌&&◌, ◌||◌, not, cond, eqb, List, [], ◌∷◌, Some, refl, sym, ap, ◌∙◌, arith, bit_at, count_by, filter, find, insert, list_any, eqb-true, bit_at-zero, ChannelId, SessionId, MaskRow, ListenerPair, User, AreMasks, is_mask, is_mask_of, mask_at, mask_below, with_pairs, with_slot, without_pairs, without_slot, SlotsRise, has_number, is_of_channel, is_of_session, is_pair}
+use Rattle.mum_users.proofs.{Counts.count_by-filter-le, Orders.Rises-filter, MaskSets.AreMasks-with_slot, MaskSets.AreMasks-without_slot, Members.AreMasks-same, Members.AreMasks-with_pairs, Members.AreMasks-without_pairs, Members.among, Members.among_others, Members.any-insert, Members.any_split, Members.none_here, Members.others}
 
 -- the session of a user listens to the channel, as these pairs say
 abbrev pub listens_in : List ListenerPair → ChannelId → User → Bool

@@ -1,29 +1,6 @@
 -- The masks of listeners after a call, as code finds the row of its session.
-use Rattle.std.proofs.Common.{◌≡◌, ℕ, Bool, true, false, ◌&&◌, ◌||◌, not, eqb, List, [], ◌∷◌, get_or, set, Some, refl, sym, ap, subst, ◌∙◌, arith}
-use Rattle.std.specs.List.{filter, find, list_any, position}
-use Rattle.std.proofs.lemmas.Bool.{eqb-true}
-use Rattle.std.proofs.lemmas.Bool.Decides.{nat_tests}
-use Rattle.std.proofs.lemmas.Map.Views.{any-filter_same}
-use Rattle.mum_base.specs.declared.number.ChannelId.{ChannelId}
-use Rattle.mum_base.specs.declared.number.SessionId.{SessionId}
-use Rattle.mum_base.specs.Channels.{is_among}
-use Rattle.mum_users.specs.declared.listening.ListenerPair.{ListenerPair}
-use Rattle.mum_users.specs.declared.masks.MaskRow.{MaskRow}
-use Rattle.mum_users.specs.declared.sessions.SessionSlot.{SessionSlot}
-use Rattle.mum_base.specs.declared.number.TheConstants.{SLOTS}
-use Rattle.mum_users.specs.declared.user.User.{User}
-use Rattle.mum_users.specs.Edit.{UserEdit, changed_user, not_listening, pairs_after, staying}
-use Rattle.mum_users.specs.Listeners.{listening, pair_below, with_pair}
-use Rattle.mum_users.specs.Numbers.{IsKept}
-use Rattle.mum_users.specs.Sessions.{left}
-use Rattle.mum_users.specs.SlotMasks.{AreMasks, has_listener_at, with_pairs, with_slot, without_pairs, without_slot}
-use Rattle.mum_users.specs.State.{RosterState, has_number, is_of_session, is_pair}
-use Rattle.mum_users.proofs.Edits.{listed-put, listed-staying}
-use Rattle.mum_users.proofs.ListenerMasks.{AreMasks-listening, AreMasks-not_listening, AreMasks-relistened, AreMasks-unlistened, among_same, listens_in}
-use Rattle.mum_users.proofs.Members.{AreMasks-same, among}
-use Rattle.mum_users.proofs.Rosters.{found_row, listeners-mapped, set-changed}
-use Rattle.mum_users.proofs.Silence.{changed_user_keeps}
-use Rattle.mum_users.proofs.Told.{listed-left, others-staying, others_listen_as_before_lem}
+use Rattle.mum_users.proofs.Common.{◌≡◌, ℕ, Bool, true, false, ◌&&◌, ◌||◌, not, eqb, List, [], ◌∷◌, get_or, set, Some, refl, sym, ap, subst, ◌∙◌, arith, filter, find, list_any, position, eqb-true, nat_tests, any-filter_same, ChannelId, SessionId, is_among, ListenerPair, MaskRow, SessionSlot, SLOTS, User, UserEdit, changed_user, not_listening, pairs_after, staying, listening, pair_below, with_pair, IsKept, left, AreMasks, has_listener_at, with_pairs, with_slot, without_pairs, without_slot, RosterState, has_number, is_of_session, is_pair}
+use Rattle.mum_users.proofs.{Edits.listed-put, Edits.listed-staying, ListenerMasks.AreMasks-listening, ListenerMasks.AreMasks-not_listening, ListenerMasks.AreMasks-relistened, ListenerMasks.AreMasks-unlistened, ListenerMasks.among_same, ListenerMasks.listens_in, Members.AreMasks-same, Members.among, Rosters.found_row, Rosters.listeners-mapped, Rosters.set-changed, Silence.changed_user_keeps, Told.listed-left, Told.others-staying, Told.others_listen_as_before_lem}
 
 find_passes : (session : SessionId) (users : List User) (row : User) → find (has_number session) users ≡ Some row → has_number session row ≡ true
 find_passes session [] row found = absurd (cc)

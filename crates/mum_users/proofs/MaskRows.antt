@@ -1,23 +1,6 @@
 -- Rows of masks: the mask of a channel and a word after one is put in.
-use Rattle.std.proofs.Common.{◌≡◌, ℕ, suc, ◌*◌, ◌%◌, eq-eqb, subst, ◌+◌, ◌<◌, ◌≤◌, ◌^◌, Bool, true, false, not, cond, eqb, List, [], ◌∷◌, length, get_or, set, refl, sym, ap, ◌∙◌, inl, inr, arith}
-use Rattle.std.specs.Prelude.{IsTrue}
-use Rattle.std.specs.List.{count_by, insert, position_or_len, remove}
-use Rattle.std.specs.List.Sorted.{IsNonDecreasingBy}
-use Rattle.std.specs.Int.{bit_at, bit_not}
-use Rattle.std.specs.Int.RustNames.{bit_or}
-use lib.Bits.{bit_and}
-use mir.Syntax.{w128}
-use Rattle.std.proofs.lemmas.Nat.Bits.{bit_at_clear_other, bit_at_clear_same, bit_at_set_other, bit_at_set_same}
-use Rattle.std.proofs.lemmas.Nat.{and_le_l, one_shl, or_disjoint, pow_pos}
-use Rattle.std.proofs.lemmas.Bool.{cases_lt, eqb-true, ne_eqb}
-use Rattle.std.proofs.lemmas.Bool.Decides.{nat_tests}
-use Rattle.mum_base.specs.declared.number.ChannelId.{ChannelId}
-use Rattle.mum_users.specs.declared.masks.MaskRow.{MaskRow}
-use Rattle.mum_users.specs.Order.{IsBelowAll, Rises}
-use Rattle.mum_users.proofs.Counts.{count_by-cons}
-use Rattle.mum_users.proofs.Orders.{IsBelowAll-through}
-use Rattle.mum_users.proofs.Search.{Rises-at}
-use Rattle.mum_users.specs.SlotMasks.{is_mask, is_mask_below, is_mask_of, mask_at, mask_below, with_mask}
+use Rattle.mum_users.proofs.Common.{◌≡◌, ℕ, suc, ◌*◌, ◌%◌, eq-eqb, subst, ◌+◌, ◌<◌, ◌≤◌, ◌^◌, Bool, true, false, not, cond, eqb, List, [], ◌∷◌, length, get_or, set, refl, sym, ap, ◌∙◌, inl, inr, arith, IsTrue, count_by, insert, position_or_len, remove, IsNonDecreasingBy, bit_at, bit_not, bit_or, bit_and, w128, bit_at_clear_other, bit_at_clear_same, bit_at_set_other, bit_at_set_same, and_le_l, one_shl, or_disjoint, pow_pos, cases_lt, eqb-true, ne_eqb, nat_tests, ChannelId, MaskRow, IsBelowAll, Rises, is_mask, is_mask_below, is_mask_of, mask_at, mask_below, with_mask}
+use Rattle.mum_users.proofs.{Counts.count_by-cons, Orders.IsBelowAll-through, Search.Rises-at}
 
 one_more : (n : ℕ) → 1 + n ≡ suc n
 one_more n = omega arith

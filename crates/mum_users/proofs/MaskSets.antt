@@ -1,14 +1,5 @@
 -- Which slots are set in rows of masks, after a slot is set or cleared, and how many rows there are.
-use Rattle.std.proofs.Common.{◌≡◌, ℕ, ◌*◌, ◌/◌, ◌%◌, ◌<◌, ◌^◌, Bool, true, false, ◌&&◌, ◌||◌, not, cond, eqb, List, refl, sym, ap, ◌∙◌, eq-eqb, arith}
-use Rattle.std.specs.Int.{bit_at, bit_not}
-use Rattle.std.specs.Int.RustNames.{bit_or}
-use lib.Bits.{bit_and}
-use mir.Syntax.{w128}
-use Rattle.std.proofs.lemmas.Bool.{eqb-true}
-use Rattle.std.proofs.lemmas.Nat.{and_le_l, or_lt}
-use Rattle.mum_base.specs.declared.number.ChannelId.{ChannelId}
-use Rattle.mum_users.specs.declared.masks.MaskRow.{MaskRow}
-use Rattle.mum_users.specs.SlotMasks.{AreMasks, mask_at, with_mask, with_slot, without_slot}
+use Rattle.mum_users.proofs.Common.{◌≡◌, ℕ, ◌*◌, ◌/◌, ◌%◌, ◌<◌, ◌^◌, Bool, true, false, ◌&&◌, ◌||◌, not, cond, eqb, List, refl, sym, ap, ◌∙◌, eq-eqb, arith, bit_at, bit_not, bit_or, bit_and, w128, eqb-true, and_le_l, or_lt, ChannelId, MaskRow, AreMasks, mask_at, with_mask, with_slot, without_slot}
 use Rattle.mum_users.proofs.MaskRows.{Rises-with_mask, bit_clear, bit_set, empties-with_mask, mask_at-lt, mask_at-with_mask}
 
 -- a number by its word and its bit

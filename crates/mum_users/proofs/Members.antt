@@ -1,29 +1,6 @@
 -- The masks of members: one session apart from the others, and how many rows there are at most.
-use Rattle.std.proofs.Common.{◌≡◌, ℕ, suc, ◌+◌, ◌-◌, ◌*◌, ◌/◌, ◌%◌, ◌<◌, ◌≤◌, ◌^◌, Bool, true, false, ◌&&◌, ◌||◌, not, cond, eqb, List, [], ◌∷◌, length, get_or, drop, drop-cons, map, Some, refl, sym, ap, subst, ◌∙◌, eq-eqb, arith}
-use Rattle.std.specs.Prelude.{IsTrue}
-use Rattle.std.specs.Int.{bit_at, trailing_zeros}
-use Rattle.std.specs.Int.RustNames.{bit_or}
-use Rattle.std.specs.List.{All, count_by, filter, find, insert, list_any}
-use mir.Syntax.{w128}
-use Rattle.std.proofs.lemmas.Bool.{eqb-true, or_parts}
-use Rattle.std.proofs.lemmas.Bool.Decides.{nat_tests}
-use Rattle.std.proofs.lemmas.List.Folds.{list_any_at, list_any_none}
-use Rattle.std.proofs.lemmas.Map.Views.{any-filter_same}
-use Rattle.std.proofs.lemmas.Nat.Bits.{bit_at-trailing_zeros, bit_at-zero}
-use Rattle.mum_base.specs.declared.number.ChannelId.{ChannelId}
-use Rattle.mum_base.specs.declared.number.SessionId.{SessionId}
-use Rattle.mum_users.specs.declared.masks.MaskRow.{MaskRow}
-use Rattle.mum_users.specs.declared.listening.ListenerPair.{ListenerPair}
-use Rattle.mum_users.specs.declared.placing.Placement.{Placement}
-use Rattle.mum_users.specs.declared.user.User.{User}
-use Rattle.mum_users.specs.Order.{IsBelowAll, Rises}
-use Rattle.mum_users.specs.Placed.{is_moved, with_placement}
-use Rattle.mum_users.specs.SlotMasks.{AreMasks, is_mask, is_mask_of, is_row_of, mask_at, mask_below, masks_of, with_pairs, with_slot, without_pairs, without_slot}
-use Rattle.mum_users.specs.Proper.{SlotsRise}
-use Rattle.mum_users.specs.State.{has_number, is_in, is_of_channel}
-use Rattle.mum_users.proofs.Counts.{count_by-cons, count_by-insert, list_any-count_by, some_from}
-use Rattle.mum_users.proofs.MaskRows.{absent_above, length-with_mask}
-use Rattle.mum_users.proofs.MaskSets.{AreMasks-with_slot, AreMasks-without_slot}
+use Rattle.mum_users.proofs.Common.{◌≡◌, ℕ, suc, ◌+◌, ◌-◌, ◌*◌, ◌/◌, ◌%◌, ◌<◌, ◌≤◌, ◌^◌, Bool, true, false, ◌&&◌, ◌||◌, not, cond, eqb, List, [], ◌∷◌, length, get_or, drop, drop-cons, map, Some, refl, sym, ap, subst, ◌∙◌, eq-eqb, arith, IsTrue, bit_at, trailing_zeros, bit_or, All, count_by, filter, find, insert, list_any, w128, eqb-true, or_parts, nat_tests, list_any_at, list_any_none, any-filter_same, bit_at-trailing_zeros, bit_at-zero, ChannelId, SessionId, MaskRow, ListenerPair, Placement, User, IsBelowAll, Rises, is_moved, with_placement, AreMasks, is_mask, is_mask_of, is_row_of, mask_at, mask_below, masks_of, with_pairs, with_slot, without_pairs, without_slot, SlotsRise, has_number, is_in, is_of_channel}
+use Rattle.mum_users.proofs.{Counts.count_by-cons, Counts.count_by-insert, Counts.list_any-count_by, Counts.some_from, MaskRows.absent_above, MaskRows.length-with_mask, MaskSets.AreMasks-with_slot, MaskSets.AreMasks-without_slot}
 
 -- ---- a test among users, one apart from the others
 

@@ -1,22 +1,6 @@
 -- The slots of sessions stay with their rows, and lead to them.
-use Rattle.std.proofs.Common.{◌≡◌, ℕ, zero, suc, ◌+◌, ◌<◌, ◌≤◌, Bool, true, false, cond, ltb, List, [], ◌∷◌, ◌++◌, length, get_or, take, drop, map, Some, None, refl, sym, ap, ◌∙◌, arith}
-use Rattle.std.specs.Prelude.{IsTrue}
-use Rattle.std.specs.List.{count_by, filter, insert, position, position_or_len}
-use Rattle.std.proofs.lemmas.Bool.{eqb-true, ne_eqb}
-use Rattle.std.proofs.lemmas.Bool.Decides.{nat_tests}
-use Rattle.std.proofs.lemmas.List.{append-nil, map-append, take-append-drop}
-use Rattle.mum_base.specs.declared.number.SessionId.{SessionId}
-use Rattle.mum_base.specs.declared.number.Slot.{Slot}
-use Rattle.mum_users.specs.declared.sessions.SessionSlot.{SessionSlot}
-use Rattle.mum_users.specs.declared.user.User.{User}
-use Rattle.mum_users.specs.Numbers.{IsNumbered, is_slot_of, number_below, session_slot}
-use Rattle.mum_users.specs.Order.{IsBelowAll, Rises}
-use Rattle.mum_users.specs.Proper.{SlotsRise}
-use Rattle.mum_users.specs.State.{has_number, has_slot}
-use Rattle.mum_users.proofs.Counts.{count_by-cons}
-use Rattle.mum_users.proofs.Indexes.{filter-swap}
-use Rattle.mum_users.proofs.Orders.{Rises-filter}
-use Rattle.mum_users.proofs.Search.{IsBelowAll-at, Rises-at}
+use Rattle.mum_users.proofs.Common.{◌≡◌, ℕ, zero, suc, ◌+◌, ◌<◌, ◌≤◌, Bool, true, false, cond, ltb, List, [], ◌∷◌, ◌++◌, length, get_or, take, drop, map, Some, None, refl, sym, ap, ◌∙◌, arith, IsTrue, count_by, filter, insert, position, position_or_len, eqb-true, ne_eqb, nat_tests, append-nil, map-append, take-append-drop, SessionId, Slot, SessionSlot, User, IsNumbered, is_slot_of, number_below, session_slot, IsBelowAll, Rises, SlotsRise, has_number, has_slot}
+use Rattle.mum_users.proofs.{Counts.count_by-cons, Indexes.filter-swap, Orders.Rises-filter, Search.IsBelowAll-at, Search.Rises-at}
 
 -- ---- the slot of a session is found by binary search
 
@@ -186,7 +170,7 @@ module _ (last : ℕ) (new : SessionSlot) (is_next : last < new.session.0) where
   filter-others session [] ys other = rw other refl
   filter-others session (x ∷ xs) ys other = ap (λ zs. cond (is_slot_of session x) (x ∷ zs) zs) (filter-others session xs ys other)
 
-  -- a new row at any place, and its slot behind the others
+  -- a new row at any place, and its slot after the others
   either_place : (session : SessionId) (xs ys us vs : List SessionSlot) → (last < session.0 → filter (is_slot_of session) (xs ++ ys) ≡ []) → filter (is_slot_of session) (xs ++ ys) ≡ filter (is_slot_of session) (us ++ vs) → filter (is_slot_of session) (xs ++ new ∷ ys) ≡ filter (is_slot_of session) (us ++ new ∷ vs)
   either_place session xs ys us vs none same = split (is_slot_of session new) refl
     where

@@ -1,13 +1,5 @@
 -- Lists in order stay in order.
-use Rattle.std.proofs.Common.{◌≡◌, Bool, true, false, List, [], ◌∷◌, refl, arith}
-use Rattle.std.specs.List.{filter}
-use Rattle.std.proofs.lemmas.Bool.Decides.{nat_tests}
-use Rattle.std.specs.Prelude.{IsTrue}
-use Rattle.mum_users.specs.declared.target.TargetRow.{TargetRow}
-use Rattle.mum_users.specs.State.{is_target}
-use Rattle.mum_users.specs.Targets.{with_target}
-use Rattle.mum_users.specs.Order.{IsBelowAll, Rises}
-use Rattle.mum_users.specs.Proper.{row_below}
+use Rattle.mum_users.proofs.Common.{◌≡◌, Bool, true, false, List, [], ◌∷◌, refl, arith, filter, nat_tests, IsTrue, TargetRow, is_target, with_target, IsBelowAll, Rises, row_below}
 
 module _ {X : Type 0} (below : X → X → Bool) where
   pub IsBelowAll-filter : (q : X → Bool) (first : X) (xs : List X) → IsBelowAll below first xs → IsBelowAll below first (filter q xs)

@@ -1,14 +1,6 @@
 -- How many pairs pass a test once a pair is put in.
-use Rattle.std.proofs.Common.{◌≡◌, ℕ, ◌+◌, Bool, true, false, cond, List, [], ◌∷◌, refl, ap, arith}
-use Rattle.std.specs.List.{count_by, list_any}
-use Rattle.mum_users.specs.declared.listening.ListenerPair.{ListenerPair}
-use Rattle.mum_users.specs.declared.listening.PairOrder.TheVariants.{BySession}
-use Rattle.mum_users.specs.Listeners.{pair_below, with_pair}
-use Rattle.mum_users.specs.Order.{IsBelowAll, Rises}
-use Rattle.mum_users.specs.State.{is_pair}
-use Rattle.mum_users.proofs.Counts.{count_by-cons}
-use Rattle.mum_users.proofs.Orders.{IsBelowAll-through}
-use Rattle.mum_users.proofs.Pairs.{above_is_other, below_is_other, pair_other_way, pair_through}
+use Rattle.mum_users.proofs.Common.{◌≡◌, ℕ, ◌+◌, Bool, true, false, cond, List, [], ◌∷◌, refl, ap, arith, count_by, list_any, ListenerPair, BySession, pair_below, with_pair, IsBelowAll, Rises, is_pair}
+use Rattle.mum_users.proofs.{Counts.count_by-cons, Orders.IsBelowAll-through, Pairs.above_is_other, Pairs.below_is_other, Pairs.pair_other_way, Pairs.pair_through}
 
 none_above : (new : ListenerPair) (pairs : List ListenerPair) → IsBelowAll pair_below new pairs → list_any (is_pair new.session new.channel) pairs ≡ false
 none_above new [] all = refl

@@ -1,18 +1,6 @@
 -- Pairs in either order: a pair put in, what is left out, and what is found.
-use Rattle.std.proofs.Common.{◌≡◌, ℕ, ◌+◌, ◌<◌, Bool, true, false, not, cond, eqb, List, [], ◌∷◌, length, get_or, refl, sym, ap, ◌∙◌, arith}
-use Rattle.std.specs.Prelude.{IsTrue}
-use Rattle.std.specs.List.{filter, insert, list_any, position_or_len}
-use Rattle.std.proofs.lemmas.Bool.Decides.{nat_tests}
-use Rattle.mum_base.specs.declared.number.SessionId.{SessionId}
-use Rattle.mum_base.specs.declared.number.ChannelId.{ChannelId}
-use Rattle.mum_users.specs.declared.listening.ListenerPair.{ListenerPair}
-use Rattle.mum_users.specs.declared.listening.PairOrder.{PairOrder}
-use Rattle.mum_users.specs.declared.listening.PairOrder.TheVariants.{BySession, ByChannel}
-use Rattle.mum_users.specs.Listeners.{below_in, channel_below, pair_below, with_pair}
-use Rattle.mum_users.specs.Order.{IsBelowAll, Rises}
-use Rattle.mum_users.specs.State.{is_of_channel, is_of_session, is_pair}
-use Rattle.mum_users.proofs.Orders.{IsBelowAll-filter, IsBelowAll-through}
-use Rattle.mum_users.proofs.Places.{one_more}
+use Rattle.mum_users.proofs.Common.{◌≡◌, ℕ, ◌+◌, ◌<◌, Bool, true, false, not, cond, eqb, List, [], ◌∷◌, length, get_or, refl, sym, ap, ◌∙◌, arith, IsTrue, filter, insert, list_any, position_or_len, nat_tests, SessionId, ChannelId, ListenerPair, PairOrder, BySession, ByChannel, below_in, channel_below, pair_below, with_pair, IsBelowAll, Rises, is_of_channel, is_of_session, is_pair}
+use Rattle.mum_users.proofs.{Orders.IsBelowAll-filter, Orders.IsBelowAll-through, Places.one_more}
 
 -- ---- the two orders
 
@@ -112,7 +100,7 @@ is_pair-of_session session channel (pair ∷ pairs) = split (is_of_session sessi
 abbrev pub place_in : PairOrder → ListenerPair → List ListenerPair → ℕ
 place_in o new pairs = position_or_len (λ pair. not (below_in o pair new)) pairs
 
--- where the pair is there, it stands at its place
+-- where the pair is there, it is at its place
 stays : (o : PairOrder) (new : ListenerPair) (pairs : List ListenerPair) (d : ListenerPair) → place_in o new pairs < length pairs → is_pair new.session new.channel (get_or pairs (place_in o new pairs) d) ≡ true → with_pair (below_in o) new pairs ≡ pairs
 stays o new [] d within there = absurd (omega arith)
 stays o new (pair ∷ pairs) d within there = split (below_in o pair new) refl (stays o new pairs d)

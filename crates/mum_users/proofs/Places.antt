@@ -1,12 +1,5 @@
 -- The first place at which a test passes, and what a change there is.
-use Rattle.std.proofs.Common.{◌≡◌, ℕ, suc, ◌+◌, ◌<◌, ◌≤◌, Bool, true, false, not, cond, ltb, List, [], ◌∷◌, length, get_or, set, map, Some, None, refl, sym, ap, ◌∙◌, arith}
-use Rattle.std.specs.Prelude.{IsTrue, unwrap_or}
-use Rattle.std.specs.List.{count_by, find, insert, list_any, position, position_or_len}
-use Rattle.std.specs.Option.{is_some}
-use Rattle.std.proofs.lemmas.Bool.Decides.{nat_tests}
-use Rattle.mum_users.specs.declared.target.TargetRow.{TargetRow}
-use Rattle.mum_users.specs.State.{is_target}
-use Rattle.mum_users.specs.Targets.{target_below, with_target}
+use Rattle.mum_users.proofs.Common.{◌≡◌, ℕ, suc, ◌+◌, ◌<◌, ◌≤◌, Bool, true, false, not, cond, ltb, List, [], ◌∷◌, length, get_or, set, map, Some, None, refl, sym, ap, ◌∙◌, arith, IsTrue, unwrap_or, count_by, find, insert, list_any, position, position_or_len, is_some, nat_tests, TargetRow, is_target, target_below, with_target}
 use Rattle.mum_users.proofs.Counts.{count_by-cons}
 
 pub one_more : (n : ℕ) → 1 + n ≡ suc n
@@ -93,7 +86,7 @@ set-position p f (x ∷ xs) d few within = split (p x) refl (set-position p f xs
 abbrev pub place_for : TargetRow → List TargetRow → ℕ
 place_for new rows = position_or_len (λ row. not (target_below new.session new.id row)) rows
 
--- where the target's number stands in this row, the new row takes its place
+-- where the target's number is in this row, the new row takes its place
 pub with_target-set : (new : TargetRow) (rows : List TargetRow) (d : TargetRow) → place_for new rows < length rows → is_target new.session new.id (get_or rows (place_for new rows) d) ≡ true → set rows (place_for new rows) new ≡ with_target new rows
 with_target-set new [] d within there = absurd (omega arith)
 with_target-set new (row ∷ rows) d within there = split (target_below new.session new.id row) refl (with_target-set new rows d)

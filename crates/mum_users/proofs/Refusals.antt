@@ -1,31 +1,6 @@
 -- A call is refused exactly where it would not leave a proper roster.
-use Rattle.std.proofs.Common.{◌≡◌, ℕ, ◌+◌, ◌-◌, ◌<◌, ◌≤◌, ◌^◌, ◌↔◌, Bool, true, false, not, cond, eqb, leb, ltb, List, [], ◌∷◌, length, Some, None, refl, sym, ap, subst, ◌∙◌, arith}
-use Rattle.std.specs.List.{count_by, filter, list_any}
-use Rattle.std.specs.Str.{bytes_eq}
-use Rattle.std.proofs.lemmas.Bool.{le-ltb, leb-false, lt-leb, ne_eqb}
-use Rattle.std.proofs.lemmas.Bool.Decides.{nat_tests}
-use Rattle.std.proofs.lemmas.List.Edits.{length-insert}
-use Rattle.std.proofs.lemmas.Slice.Eq.{bytes_eq-Decides}
-use Rattle.mum_base.specs.declared.number.ChannelId.{ChannelId}
-use Rattle.mum_base.specs.declared.number.SessionId.{SessionId}
-use Rattle.mum_users.specs.declared.listening.ListenerPair.{ListenerPair}
-use Rattle.mum_users.specs.declared.listening.TheConstants.{CHANNEL_LISTENERS, LISTENED_CHANNELS}
-use Rattle.mum_users.specs.declared.fault.UserFault.TheVariants.{Full, ListenerLimit, NameInUse, SessionsUsedUp, TargetId, TargetSize, UserListenerLimit}
-use Rattle.mum_users.specs.declared.target.Target.{Target}
-use Rattle.mum_users.specs.declared.target.TargetRow.{TargetRow}
-use Rattle.mum_users.specs.declared.target.TheConstants.{LAST_TARGET}
-use Rattle.mum_users.specs.Edit.{edit_fault, edited, is_crowded, pairs_after}
-use Rattle.mum_users.specs.Laws.{EditsWhereProper, JoinsWhereProper, ListensWhereProper, TargetsWhereProper, UnsetStaysProper}
-use Rattle.mum_users.specs.Sessions.{free_slot, join_fault, joined, next_number, next_slot}
-use Rattle.mum_users.specs.Listeners.{listen_fault, listening, listens, pair_below, with_pair}
-use Rattle.mum_users.specs.Proper.{IsProper, is_sound}
-use Rattle.mum_users.specs.State.{RosterState, has_name, is_of_channel, is_of_session, is_target, joining}
-use Rattle.mum_users.specs.Targets.{is_oversize, target_below, target_fault, targeted, with_target}
-use Rattle.mum_users.proofs.Edits.{IsProper-edited_allowed}
-use Rattle.mum_users.proofs.PairCounts.{count-put_new, listed-stays}
-use Rattle.mum_users.proofs.Counts.{count_by-cons, count_by-insert, some_from}
-use Rattle.mum_users.proofs.Rosters.{IsProper-fewer_targets, IsProper-joined, IsProper-listening, IsProper-with_target}
-use Rattle.mum_users.proofs.Slots.{SlotsRise-within, free_slot_from-le}
+use Rattle.mum_users.proofs.Common.{◌≡◌, ℕ, ◌+◌, ◌-◌, ◌<◌, ◌≤◌, ◌^◌, ◌↔◌, Bool, true, false, not, cond, eqb, leb, ltb, List, [], ◌∷◌, length, Some, None, refl, sym, ap, subst, ◌∙◌, arith, count_by, filter, list_any, bytes_eq, le-ltb, leb-false, lt-leb, ne_eqb, nat_tests, length-insert, bytes_eq-Decides, ChannelId, SessionId, ListenerPair, CHANNEL_LISTENERS, LISTENED_CHANNELS, Full, ListenerLimit, NameInUse, SessionsUsedUp, TargetId, TargetSize, UserListenerLimit, Target, TargetRow, LAST_TARGET, edit_fault, edited, is_crowded, pairs_after, EditsWhereProper, JoinsWhereProper, ListensWhereProper, TargetsWhereProper, UnsetStaysProper, free_slot, join_fault, joined, next_number, next_slot, listen_fault, listening, listens, pair_below, with_pair, IsProper, is_sound, RosterState, has_name, is_of_channel, is_of_session, is_target, joining, is_oversize, target_below, target_fault, targeted, with_target}
+use Rattle.mum_users.proofs.{Edits.IsProper-edited_allowed, PairCounts.count-put_new, PairCounts.listed-stays, Counts.count_by-cons, Counts.count_by-insert, Counts.some_from, Rosters.IsProper-fewer_targets, Rosters.IsProper-joined, Rosters.IsProper-listening, Rosters.IsProper-with_target, Slots.SlotsRise-within, Slots.free_slot_from-le}
 
 -- ---- several parts at once
 

@@ -1,44 +1,6 @@
 -- What each call leaves is a proper roster.
-use Rattle.std.proofs.Common.{◌≡◌, ℕ, ◌+◌, ◌-◌, ◌<◌, ◌≤◌, ◌^◌, Bool, true, false, not, cond, eqb, leb, ltb, List, [], ◌∷◌, length, get_or, set, map, Option, Some, None, refl, sym, ap, subst, ◌∙◌, arith}
-use Rattle.std.proofs.Common.{inl, inr}
-use Rattle.std.specs.List.{count_by, filter, find, list_any, position, position_or_len}
-use Rattle.std.specs.Str.{bytes_eq}
-use Rattle.std.proofs.lemmas.Bool.{cases_Bool, eqb-true, le-leb, le-ltb, leb-false, lt-leb, ne_eqb}
-use Rattle.std.proofs.lemmas.Bool.Decides.{nat_tests}
-use Rattle.std.proofs.lemmas.Slice.Eq.{bytes_eq-Decides}
-use Rattle.mum_base.specs.declared.number.SessionId.{SessionId}
-use Rattle.mum_base.specs.declared.number.ChannelId.{ChannelId}
-use Rattle.mum_base.specs.declared.number.AccountId.{AccountId}
-use Rattle.mum_base.specs.declared.number.Slot.{Slot}
-use Rattle.mum_base.specs.declared.number.TheConstants.ChannelId.{ROOT}
-use Rattle.mum_users.specs.declared.sessions.SessionSlot.{SessionSlot}
-use Rattle.mum_base.specs.declared.number.TheConstants.{SLOTS}
-use Rattle.mum_users.specs.declared.user.User.{User}
-use Rattle.mum_users.specs.declared.listening.TheConstants.{CHANNEL_LISTENERS, LISTENED_CHANNELS}
-use Rattle.mum_users.specs.declared.listening.ListenerPair.{ListenerPair}
-use Rattle.mum_users.specs.declared.listening.PairOrder.TheVariants.{BySession}
-use Rattle.mum_users.specs.declared.target.TargetRow.{TargetRow}
-use Rattle.mum_users.specs.SlotMasks.{AreMasks, has_listener_at, has_member_at, masks_of, with_slot, without_slot}
-use Rattle.mum_users.specs.declared.masks.MaskRow.{MaskRow}
-use Rattle.mum_users.specs.State.{RosterState, has_name, has_number, is_in, is_of, is_of_channel, is_of_session, is_pair, is_target, joining}
-use Rattle.mum_users.specs.declared.fault.UserFault.TheVariants.{Full, ListenerLimit, NameInUse, NoSession, SessionsUsedUp, UserListenerLimit}
-use Rattle.mum_users.specs.declared.placing.Placement.{Placement}
-use Rattle.mum_users.specs.Placed.{is_moved, with_placement, with_placements}
-use Rattle.mum_users.specs.Sessions.{absent_fault, changed, free_slot, join_fault, joined, left, next_number, next_slot}
-use Rattle.mum_users.specs.Listeners.{listen_fault, listening, listens, pair_below, with_pair}
-use Rattle.mum_users.specs.declared.target.TheConstants.{LAST_TARGET}
-use Rattle.mum_users.specs.Targets.{is_oversize, target_below, with_target}
-use Rattle.mum_users.specs.Numbers.{IsKept, IsNumbered, session_slot}
-use Rattle.mum_users.specs.Proper.{IsProper, SlotsRise, deaf_is_mute, is_sound, row_below}
-use Rattle.mum_users.proofs.Counts.{count_by-cons, count_by-insert, count_by-filter-le, count_by-filter_others, count_by-filter_none, count_by-map, none_from, some_from}
-use Rattle.mum_users.proofs.ListenerMasks.{AreMasks-join_listeners, listens_in}
-use Rattle.mum_users.proofs.Members.{AreMasks-joined, AreMasks-masks_of, AreMasks-moved, AreMasks-out, AreMasks-same, among, among-mapped, among-stayed, few_member_rows, room_out}
-use Rattle.mum_users.proofs.Numbers.{IsNumbered-map}
-use Rattle.mum_users.proofs.Places.{absent_from, find-found, present_from, set-position}
-use Rattle.mum_users.proofs.Slots.{SlotsRise-filter, SlotsRise-higher, SlotsRise-within, SlotsRise-map, SlotsRise-with_placement, free_slot_from-le}
-use Rattle.mum_users.proofs.Orders.{Rises-filter, Rises-with_target}
-use Rattle.mum_users.proofs.Pairs.{Rises-put}
-use Rattle.mum_users.proofs.PairCounts.{count-put_new, listed-stays}
+use Rattle.mum_users.proofs.Common.{◌≡◌, ℕ, ◌+◌, ◌-◌, ◌<◌, ◌≤◌, ◌^◌, Bool, true, false, not, cond, eqb, leb, ltb, List, [], ◌∷◌, length, get_or, set, map, Option, Some, None, refl, sym, ap, subst, ◌∙◌, arith, inl, inr, count_by, filter, find, list_any, position, position_or_len, bytes_eq, cases_Bool, eqb-true, le-leb, le-ltb, leb-false, lt-leb, ne_eqb, nat_tests, bytes_eq-Decides, SessionId, ChannelId, AccountId, Slot, ROOT, SessionSlot, SLOTS, User, CHANNEL_LISTENERS, LISTENED_CHANNELS, ListenerPair, BySession, TargetRow, AreMasks, has_listener_at, has_member_at, masks_of, with_slot, without_slot, MaskRow, RosterState, has_name, has_number, is_in, is_of, is_of_channel, is_of_session, is_pair, is_target, joining, Full, ListenerLimit, NameInUse, NoSession, SessionsUsedUp, UserListenerLimit, Placement, is_moved, with_placement, with_placements, absent_fault, changed, free_slot, join_fault, joined, left, next_number, next_slot, listen_fault, listening, listens, pair_below, with_pair, LAST_TARGET, is_oversize, target_below, with_target, IsKept, IsNumbered, session_slot, IsProper, SlotsRise, deaf_is_mute, is_sound, row_below}
+use Rattle.mum_users.proofs.{Counts.count_by-cons, Counts.count_by-insert, Counts.count_by-filter-le, Counts.count_by-filter_others, Counts.count_by-filter_none, Counts.count_by-map, Counts.none_from, Counts.some_from, ListenerMasks.AreMasks-join_listeners, ListenerMasks.listens_in, Members.AreMasks-joined, Members.AreMasks-masks_of, Members.AreMasks-moved, Members.AreMasks-out, Members.AreMasks-same, Members.among, Members.among-mapped, Members.among-stayed, Members.few_member_rows, Members.room_out, Numbers.IsNumbered-map, Places.absent_from, Places.find-found, Places.present_from, Places.set-position, Slots.SlotsRise-filter, Slots.SlotsRise-higher, Slots.SlotsRise-within, Slots.SlotsRise-map, Slots.SlotsRise-with_placement, Slots.free_slot_from-le, Orders.Rises-filter, Orders.Rises-with_target, Pairs.Rises-put, PairCounts.count-put_new, PairCounts.listed-stays}
 
 -- a change of a row that leaves what the row is found by, and who is deaf stays mute
 pub record KeepsIdentity (change : User → User) : Type 0 where

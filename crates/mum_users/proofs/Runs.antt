@@ -1,9 +1,5 @@
--- What one test passes in a list that rises stands in one place.
-use Rattle.std.proofs.Common.{◌≡◌, ℕ, ◌-◌, Bool, true, false, not, List, [], ◌∷◌, length, take, drop, refl, sym, ap, ◌∙◌}
-use Rattle.std.specs.Prelude.{IsTrue, ⊤}
-use Rattle.std.specs.List.{filter, position_or_len}
-use Rattle.std.proofs.lemmas.List.{take_rest}
-use Rattle.mum_users.specs.Order.{IsBelowAll, Rises}
+-- What one test passes in a list that rises is in one place.
+use Rattle.mum_users.proofs.Common.{◌≡◌, ℕ, ◌-◌, Bool, true, false, not, List, [], ◌∷◌, length, take, drop, refl, sym, ap, ◌∙◌, IsTrue, ⊤, filter, position_or_len, take_rest, IsBelowAll, Rises}
 use Rattle.mum_users.proofs.Places.{one_more}
 
 -- what is lower comes before what passes, and nothing passes after what neither is

@@ -1,18 +1,5 @@
 -- Small rosters of which worked facts speak, made step by step from the empty one. Sessions, channels and slots are numbers.
-use Rattle.std.proofs.Common.{ℕ, zero, suc, ◌+◌, Bool, true, false, List, [], ◌∷◌, ◌++◌, fold, map, nat_eq, replicate, Option, Some, None}
-use Rattle.mum_base.specs.declared.number.AccountId.{AccountId}
-use Rattle.mum_base.specs.declared.number.ChannelId.{ChannelId}
-use Rattle.mum_base.specs.declared.number.SessionId.{SessionId}
-use Rattle.mum_base.specs.declared.number.Slot.{Slot}
-use Rattle.mum_users.specs.declared.flags.FlagChange.{FlagChange}
-use Rattle.mum_users.specs.declared.target.Target.{Target}
-use Rattle.mum_users.specs.declared.target.TargetItem.{TargetItem}
-use Rattle.mum_users.specs.declared.user.User.{User}
-use Rattle.mum_users.specs.Edit.{UserEdit, edited, not_listening}
-use Rattle.mum_users.specs.Listeners.{listening, without_channels}
-use Rattle.mum_users.specs.Sessions.{joined, left, placed, suppressed, with_flags, with_texts, with_tokens}
-use Rattle.mum_users.specs.State.{RosterState, empty_roster, joining}
-use Rattle.mum_users.specs.Targets.{targeted}
+use Rattle.mum_users.proofs.Common.{ℕ, zero, suc, ◌+◌, Bool, true, false, List, [], ◌∷◌, ◌++◌, fold, map, nat_eq, replicate, Option, Some, None, AccountId, ChannelId, SessionId, Slot, FlagChange, Target, TargetItem, User, UserEdit, edited, not_listening, listening, without_channels, joined, left, placed, suppressed, with_flags, with_texts, with_tokens, RosterState, empty_roster, joining, targeted}
 
 abbrev pub session : ℕ → SessionId
 session number = record { 0 = number }

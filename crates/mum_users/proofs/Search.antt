@@ -1,23 +1,6 @@
 -- A binary search in rows that rise.
-use Rattle.std.proofs.Common.{◌≡◌, ℕ, zero, suc, ◌+◌, ◌<◌, ◌≤◌, Bool, true, false, not, List, [], ◌∷◌, length, get_or, Some, None, Result, Ok, Err, MatchResult, refl, sym, ap, ◌∙◌, inl, inr, arith, ◌==◌, eq-eqb}
-use Rattle.std.specs.Prelude.{IsTrue}
-use Rattle.std.specs.List.{find, list_any, position_or_len}
-use Rattle.std.specs.List.Sorted.{IsBinarySearchResult, IsNonDecreasingBy, IsPartitionPoint, IsPartitionedBy, IsSearchInRange}
-use Rattle.std.specs.Ordering.{nat_cmp, ordering_index}
-use Rattle.std.specs.Result.{is_ok}
-use Rattle.std.proofs.lemmas.Bool.{cases_lt, ne_eqb, not_from_false, not_from_true}
-use Rattle.std.proofs.lemmas.Bool.Decides.{nat_tests}
-use Rattle.std.proofs.lemmas.Cmp.{ranked}
-use Rattle.std.proofs.lemmas.List.Folds.{list_any_at, list_any_none}
-use Rattle.std.proofs.lemmas.List.Sums.{position_or_len_is}
-use Rattle.mum_base.specs.declared.number.SessionId.{SessionId}
-use Rattle.mum_users.specs.declared.target.TargetRow.{TargetRow}
-use Rattle.mum_users.specs.State.{is_target}
-use Rattle.mum_users.specs.Targets.{target_below}
-use Rattle.mum_users.specs.Order.{IsBelowAll, Rises}
-use Rattle.mum_users.specs.Proper.{row_below}
-use Rattle.mum_users.proofs.Orders.{IsBelowAll-through, row_through, row_other_way}
-use Rattle.mum_users.proofs.Places.{one_more}
+use Rattle.mum_users.proofs.Common.{◌≡◌, ℕ, zero, suc, ◌+◌, ◌<◌, ◌≤◌, Bool, true, false, not, List, [], ◌∷◌, length, get_or, Some, None, Result, Ok, Err, MatchResult, refl, sym, ap, ◌∙◌, inl, inr, arith, ◌==◌, eq-eqb, IsTrue, find, list_any, position_or_len, IsBinarySearchResult, IsNonDecreasingBy, IsPartitionPoint, IsPartitionedBy, IsSearchInRange, nat_cmp, ordering_index, is_ok, cases_lt, ne_eqb, not_from_false, not_from_true, nat_tests, ranked, list_any_at, list_any_none, position_or_len_is, SessionId, TargetRow, is_target, target_below, IsBelowAll, Rises, row_below}
+use Rattle.mum_users.proofs.{Orders.IsBelowAll-through, Orders.row_through, Orders.row_other_way, Places.one_more}
 
 module _ {X : Type 0} (below : X → X → Bool) where
   pub IsBelowAll-at : (first : X) (xs : List X) (j : ℕ) (d : X) → IsBelowAll below first xs → j < length xs → IsTrue (below first (get_or xs j d))
@@ -45,7 +28,7 @@ place_between lower xs i d within split =
     (λ k lt. not_from_true _ (split.0 k d (omega arith) lt))
     (λ lt. not_from_false _ (split.1 i d (omega arith) lt)))
 
--- a search by halving, where keys do not fall
+-- binary search, where keys do not fall
 module _ {X : Type 0} (key : X → ℕ) (n : ℕ) (xs : List X) (up : IsNonDecreasingBy key xs) where
   -- the keys are compared with a number as a binary search asks
   comparisons_rise : IsNonDecreasingBy (λ x. ordering_index (nat_cmp (key x) n)) xs

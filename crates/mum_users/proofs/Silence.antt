@@ -1,11 +1,5 @@
 -- Who is deaf is mute, and stays so where flags change.
-use Rattle.std.proofs.Common.{◌≡◌, Bool, true, false, ◌||◌, ◌&&◌, not, Option, Some, None, refl}
-use Rattle.mum_users.specs.declared.flags.FlagChange.{FlagChange}
-use Rattle.mum_users.specs.declared.flags.Silence.{Silence}
-use Rattle.mum_users.specs.declared.user.User.{User}
-use Rattle.mum_users.specs.Edit.{UserEdit, changed_user}
-use Rattle.mum_users.specs.Flags.{flagged, silence_after}
-use Rattle.mum_users.specs.Proper.{deaf_is_mute}
+use Rattle.mum_users.proofs.Common.{◌≡◌, Bool, true, false, ◌||◌, ◌&&◌, not, Option, Some, None, refl, FlagChange, Silence, User, UserEdit, changed_user, flagged, silence_after, deaf_is_mute}
 use Rattle.mum_users.proofs.Rosters.{KeepsIdentity}
 
 abbrev is_mute_too : Silence → Bool

@@ -1,17 +1,6 @@
 -- Slots that rise, and the least that is free.
-use Rattle.std.proofs.Common.{◌≡◌, ℕ, zero, suc, ◌+◌, ◌<◌, ◌≤◌, Bool, true, false, eqb, List, [], ◌∷◌, ◌++◌, length, get_or, take, drop, map, Some, None, Result, Ok, Err, MatchResult, refl, sym, ap, ◌∙◌, arith}
-use Rattle.std.specs.List.{filter, list_any, position, position_or_len}
-use Rattle.std.specs.List.Sorted.{IsSearchInRange, IsBinarySearchResult}
-use Rattle.std.specs.Ordering.{nat_cmp}
-use Rattle.std.proofs.lemmas.Bool.{eqb-false, eqb-true, ne_eqb}
-use Rattle.std.proofs.lemmas.Bool.Decides.{nat_tests}
-use Rattle.mum_base.specs.declared.number.Slot.{Slot}
-use Rattle.mum_users.specs.declared.user.User.{User}
-use Rattle.mum_users.specs.Sessions.{free_slot_from, IsLeastFree}
-use Rattle.mum_users.specs.State.{has_slot}
-use Rattle.mum_users.specs.Proper.{SlotsRise}
-use Rattle.mum_users.proofs.Places.{no_position, position_is}
-use Rattle.mum_users.proofs.Search.{found_by_halving}
+use Rattle.mum_users.proofs.Common.{◌≡◌, ℕ, zero, suc, ◌+◌, ◌<◌, ◌≤◌, Bool, true, false, eqb, List, [], ◌∷◌, ◌++◌, length, get_or, take, drop, map, Some, None, Result, Ok, Err, MatchResult, refl, sym, ap, ◌∙◌, arith, filter, list_any, position, position_or_len, IsSearchInRange, IsBinarySearchResult, nat_cmp, eqb-false, eqb-true, ne_eqb, nat_tests, Slot, User, free_slot_from, IsLeastFree, has_slot, SlotsRise}
+use Rattle.mum_users.proofs.{Places.no_position, Places.position_is, Search.found_by_halving}
 
 pub free_slot_from-ge : (slot : ℕ) (users : List User) → slot ≤ free_slot_from slot users
 free_slot_from-ge slot [] = omega arith

@@ -1,20 +1,5 @@
 -- Rosters worked out by hand: sessions in their slots, their flags, who listens to what, voice targets.
-use Rattle.std.proofs.Common.{◌≡◌, ℕ, ◌+◌, ◌-◌, ◌^◌, Bool, true, false, List, [], ◌∷◌, ◌++◌, codes, map, replicate, Option, Some, None, refl}
-use Rattle.mum_users.specs.declared.fault.UserFault.{UserFault}
-use Rattle.mum_users.specs.declared.fault.UserFault.TheVariants.{Full, ListenerLimit, NameInUse, NoSession, SessionsUsedUp, TargetId, TargetSize, UserListenerLimit}
-use Rattle.mum_users.specs.declared.flags.Silence.{Silence}
-use Rattle.mum_users.specs.declared.target.Target.{Target}
-use Rattle.mum_users.specs.declared.target.TargetItem.{TargetItem}
-use Rattle.mum_users.specs.declared.user.User.{User}
-use Rattle.mum_users.specs.Edit.{UserEdit, edit_fault}
-use Rattle.mum_users.specs.Flags.{flagged, silence_after}
-use Rattle.mum_users.specs.Listeners.{listen_fault, listeners_of, pairs_of}
-use Rattle.mum_users.specs.declared.masks.MaskRow.{MaskRow}
-use Rattle.mum_users.specs.Proper.{deaf_is_mute}
-use Rattle.mum_users.specs.SlotMasks.{has_listener_at, has_member_at, mask_at, masks_of, without_slot}
-use Rattle.mum_users.specs.Sessions.{absent_fault, join_fault, joined, next_join, session_of}
-use Rattle.mum_users.specs.State.{RosterState, are_tokens, empty_roster, is_context}
-use Rattle.mum_users.specs.Targets.{target_fault, target_of}
+use Rattle.mum_users.proofs.Common.{◌≡◌, ℕ, ◌+◌, ◌-◌, ◌^◌, Bool, true, false, List, [], ◌∷◌, ◌++◌, codes, filter, map, replicate, Option, Some, None, refl, UserFault, Full, ListenerLimit, NameInUse, NoSession, SessionsUsedUp, TargetId, TargetSize, UserListenerLimit, Silence, Target, TargetItem, User, UserEdit, edit_fault, flagged, silence_after, listen_fault, pairs_of, MaskRow, deaf_is_mute, has_listener_at, has_member_at, mask_at, masks_of, without_slot, absent_fault, join_fault, joined, next_join, session_of, RosterState, are_tokens, empty_roster, is_context, is_of_channel, target_fault, target_of}
 use Rattle.mum_users.proofs.Scenes.{Step, all_listen, channel, channels, close, edit, item_channel, item_sessions, join, joins, leave, listen, listens_to, numbers_from, place, roster, row, same_flags, session, set_flags, set_target, set_texts, set_tokens, slot, suppress, target, to_channel, to_listen, unchanged, unlisten, with_children, with_group, with_links}
 
 abbrev ann : List ℕ
@@ -37,7 +22,7 @@ abbrev listened_in : List Step → ℕ → List ℕ
 listened_in steps number = map (λ pair. pair.channel.0) (pairs_of (roster steps) (session number))
 
 abbrev listeners_in : List Step → ℕ → List ℕ
-listeners_in steps id = map (λ pair. pair.session.0) (listeners_of (roster steps) (channel id))
+listeners_in steps id = map (λ pair. pair.session.0) (filter (is_of_channel (channel id)) (roster steps).listeners)
 
 abbrev target_in : List Step → ℕ → ℕ → Option Target
 target_in steps number id = target_of (roster steps) (session number) id

@@ -1,17 +1,6 @@
 -- To what sessions listen after a change.
-use Rattle.std.proofs.Common.{◌≡◌, Bool, true, false, not, eqb, ◌&&◌, ◌||◌, List, [], ◌∷◌, refl, sym, ap, ◌∙◌, arith}
-use Rattle.std.specs.List.{count_by, filter, list_any}
-use Rattle.std.proofs.lemmas.Bool.{ne_eqb}
-use Rattle.std.proofs.lemmas.Bool.Decides.{nat_tests}
-use Rattle.mum_base.specs.declared.number.ChannelId.{ChannelId}
-use Rattle.mum_base.specs.declared.number.SessionId.{SessionId}
-use Rattle.mum_users.specs.declared.listening.ListenerPair.{ListenerPair}
-use Rattle.mum_base.specs.Channels.{is_among}
-use Rattle.mum_users.specs.Edit.{staying, with_channels}
-use Rattle.mum_users.specs.Laws.{ListensAsTold, OthersListenAsBefore}
-use Rattle.mum_users.specs.State.{is_of_session, is_pair}
-use Rattle.mum_users.proofs.Counts.{count_by-filter_none, count_by-filter_others, list_any-count_by}
-use Rattle.mum_users.proofs.Edits.{among_same, listed-put, listed-staying, listed-with_channels}
+use Rattle.mum_users.proofs.Common.{◌≡◌, Bool, true, false, not, eqb, ◌&&◌, ◌||◌, List, [], ◌∷◌, refl, sym, ap, ◌∙◌, arith, count_by, filter, list_any, ne_eqb, nat_tests, ChannelId, SessionId, ListenerPair, is_among, staying, with_channels, ListensAsTold, OthersListenAsBefore, is_of_session, is_pair}
+use Rattle.mum_users.proofs.{Counts.count_by-filter_none, Counts.count_by-filter_others, Counts.list_any-count_by, Edits.among_same, Edits.listed-put, Edits.listed-staying, Edits.listed-with_channels}
 
 module _ (session : SessionId) (left : List ChannelId) where
   gone : (channel : ChannelId) (pair : ListenerPair) → is_among left channel ≡ true → not (is_of_session session pair && is_among left pair.channel) ≡ true → is_pair session channel pair ≡ false

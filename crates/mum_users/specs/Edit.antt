@@ -1,20 +1,14 @@
 -- Changes of several parts of a session at once.
 use Rattle.std.specs.Prelude.{◌&&◌, not, nat_lt, ℕ, Bool, List, [], ◌∷◌, filter, count_by, Option, Some, None, unwrap_or, if◌then◌else◌}
-use Rattle.std.specs.List.{list_any}
-use Rattle.std.specs.Option.{option_copied}
+use Rattle.std.specs.{List.list_any, Option.option_copied}
 use Rattle.mum_base.specs.Channels.{is_among}
-use Rattle.mum_base.specs.declared.number.SessionId.{SessionId}
-use Rattle.mum_base.specs.declared.number.ChannelId.{ChannelId}
-use Rattle.mum_users.specs.declared.edit.UserChange.{UserChange}
-use Rattle.mum_users.specs.declared.fault.UserFault.{UserFault}
+use Rattle.mum_base.specs.declared.number.{SessionId.SessionId, ChannelId.ChannelId}
+use Rattle.mum_users.specs.declared.{edit.UserChange.UserChange, fault.UserFault.UserFault}
 use Rattle.mum_users.specs.declared.fault.UserFault.TheVariants.{NoSession, ListenerLimit, UserListenerLimit}
-use Rattle.mum_users.specs.declared.flags.FlagChange.{FlagChange}
-use Rattle.mum_users.specs.declared.listening.ListenerPair.{ListenerPair}
+use Rattle.mum_users.specs.declared.{flags.FlagChange.FlagChange, listening.ListenerPair.ListenerPair}
 use Rattle.mum_users.specs.declared.listening.TheConstants.{CHANNEL_LISTENERS, LISTENED_CHANNELS}
 use Rattle.mum_users.specs.declared.user.User.{User}
-use Rattle.mum_users.specs.Flags.{flagged}
-use Rattle.mum_users.specs.Listeners.{pair_below, with_pair}
-use Rattle.mum_users.specs.Sessions.{changed}
+use Rattle.mum_users.specs.{Flags.flagged, Listeners.pair_below, Listeners.with_pair, Sessions.changed}
 use Rattle.mum_users.specs.State.{RosterState, has_number, is_of_channel, is_of_session}
 
 -- a change of a session as plain data; what is none stays
@@ -54,7 +48,8 @@ abbrev pub with_channels : SessionId → List ChannelId → List ChannelId → L
 with_channels session left [] pairs = pairs
 with_channels session left (channel ∷ channels) pairs =
     if is_among left channel then with_channels session left channels pairs
-    else with_pair pair_below (record { session = session; channel = channel }) (with_channels session left channels pairs)
+    else with_pair pair_below (record { session = session; channel = channel })
+    (with_channels session left channels pairs)
 
 -- who listens to what after the change; a channel that is listened to and left is left
 abbrev pub pairs_after : SessionId → UserEdit → List ListenerPair → List ListenerPair

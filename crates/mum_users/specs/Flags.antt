@@ -1,8 +1,6 @@
 -- How a change of flags is applied.
 use Rattle.std.specs.Prelude.{Bool, true, false, Option, Some, None, unwrap_or}
-use Rattle.mum_users.specs.declared.flags.Silence.{Silence}
-use Rattle.mum_users.specs.declared.flags.FlagChange.{FlagChange}
-use Rattle.mum_users.specs.declared.user.User.{User}
+use Rattle.mum_users.specs.declared.{flags.Silence.Silence, flags.FlagChange.FlagChange, user.User.User}
 
 -- who is no longer mute is no longer deaf
 abbrev pub after_mute : Option Bool → Silence → Silence
@@ -24,7 +22,8 @@ silence_after mute deaf was = after_deaf deaf (after_mute mute was)
 abbrev pub flagged : User → FlagChange → User
 flagged user change =
     let by_others = silence_after change.mute change.deaf (record { mute = user.mute; deaf = user.deaf }) in
-    let by_self = silence_after change.self_mute change.self_deaf (record { mute = user.self_mute; deaf = user.self_deaf }) in
+    let by_self = silence_after change.self_mute change.self_deaf
+    (record { mute = user.self_mute; deaf = user.self_deaf }) in
     record user {
       mute = by_others.mute;
       deaf = by_others.deaf;

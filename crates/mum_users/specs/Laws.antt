@@ -1,16 +1,12 @@
 -- A call is refused exactly where it would not leave a proper roster; and to what sessions listen after a change.
 use Rattle.std.specs.Prelude.{◌≡◌, ◌↔◌, ◌<◌, ◌&&◌, ◌||◌, not, ℕ, List, length, Option, None, IsTrue}
 use Rattle.std.specs.List.{list_any}
-use Rattle.mum_base.specs.declared.number.AccountId.{AccountId}
-use Rattle.mum_base.specs.declared.number.ChannelId.{ChannelId}
-use Rattle.mum_base.specs.declared.number.SessionId.{SessionId}
-use Rattle.mum_users.specs.declared.target.Target.{Target}
+use Rattle.mum_base.specs.declared.number.{AccountId.AccountId, ChannelId.ChannelId, SessionId.SessionId}
 use Rattle.mum_base.specs.Channels.{is_among}
+use Rattle.mum_users.specs.declared.target.Target.{Target}
 use Rattle.mum_users.specs.Edit.{UserEdit, edit_fault, edited}
-use Rattle.mum_users.specs.Listeners.{listen_fault, listening, listens}
-use Rattle.mum_users.specs.Proper.{IsProper}
-use Rattle.mum_users.specs.Sessions.{join_fault, joined}
-use Rattle.mum_users.specs.State.{RosterState, has_number}
+use Rattle.mum_users.specs.{Listeners.listen_fault, Listeners.listening, Listeners.listens, Proper.IsProper}
+use Rattle.mum_users.specs.{Sessions.join_fault, Sessions.joined, State.RosterState, State.has_number}
 use Rattle.mum_users.specs.Targets.{target_fault, targeted}
 
 -- a session may join exactly where a proper roster stays one with it
@@ -56,5 +52,6 @@ ListensAsTold =
 -- any other session listens to what it did
 abbrev pub OthersListenAsBefore : Type 0
 OthersListenAsBefore =
-    (state : RosterState) (session : SessionId) (change : UserEdit) (other : SessionId) (channel : ChannelId) → ¬ (session.0 ≡ other.0)
+    (state : RosterState) (session : SessionId) (change : UserEdit) (other : SessionId) (channel : ChannelId)
+    → ¬ (session.0 ≡ other.0)
     → listens (edited state session change) other channel ≡ listens state other channel

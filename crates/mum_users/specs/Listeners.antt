@@ -1,11 +1,9 @@
 -- Who listens to which channel.
 use Rattle.std.specs.Prelude.{◌≡◌, ◌==◌, ◌&&◌, ◌||◌, not, nat_lt, nat_le, Bool, List, [], ◌∷◌, filter, count_by, Option, Some, None, if◌then◌else◌}
 use Rattle.std.specs.List.{list_any}
-use Rattle.mum_base.specs.declared.number.SessionId.{SessionId}
-use Rattle.mum_base.specs.declared.number.ChannelId.{ChannelId}
+use Rattle.mum_base.specs.declared.number.{SessionId.SessionId, ChannelId.ChannelId}
 use Rattle.mum_users.specs.declared.listening.TheConstants.{CHANNEL_LISTENERS, LISTENED_CHANNELS}
-use Rattle.mum_users.specs.declared.listening.ListenerPair.{ListenerPair}
-use Rattle.mum_users.specs.declared.listening.PairOrder.{PairOrder}
+use Rattle.mum_users.specs.declared.listening.{ListenerPair.ListenerPair, PairOrder.PairOrder}
 use Rattle.mum_users.specs.declared.listening.PairOrder.TheVariants.{BySession, ByChannel}
 use Rattle.mum_users.specs.declared.fault.UserFault.{UserFault}
 use Rattle.mum_users.specs.declared.fault.UserFault.TheVariants.{NoSession, ListenerLimit, UserListenerLimit}
@@ -28,12 +26,14 @@ listen_fault state session channel =
 -- by their sessions, those of one session by their channels
 abbrev pub pair_below : ListenerPair → ListenerPair → Bool
 pair_below pair other =
-    nat_lt pair.session.0 other.session.0 || ((pair.session.0 == other.session.0) && nat_lt pair.channel.0 other.channel.0)
+    nat_lt pair.session.0 other.session.0
+    || ((pair.session.0 == other.session.0) && nat_lt pair.channel.0 other.channel.0)
 
 -- by their channels, those of one channel by their sessions
 abbrev pub channel_below : ListenerPair → ListenerPair → Bool
 channel_below pair other =
-    nat_lt pair.channel.0 other.channel.0 || ((pair.channel.0 == other.channel.0) && nat_lt pair.session.0 other.session.0)
+    nat_lt pair.channel.0 other.channel.0
+    || ((pair.channel.0 == other.channel.0) && nat_lt pair.session.0 other.session.0)
 
 -- the pair comes before the other in this order
 abbrev pub below_in : PairOrder → ListenerPair → ListenerPair → Bool
@@ -56,10 +56,6 @@ listening state session channel =
 -- the pairs of a session, by their channels
 abbrev pub pairs_of : RosterState → SessionId → List ListenerPair
 pairs_of state session = filter (is_of_session session) state.listeners
-
--- the pairs of a channel, by their sessions
-abbrev pub listeners_of : RosterState → ChannelId → List ListenerPair
-listeners_of state channel = filter (is_of_channel channel) state.listeners
 
 -- the same pairs in two orders: in both, a channel has the same sessions in one order
 pub record IsIndexed (pairs by_channel : List ListenerPair) : Type 0 where

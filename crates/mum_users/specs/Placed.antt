@@ -1,7 +1,6 @@
 -- The placement of all sessions at once.
 use Rattle.std.specs.Prelude.{◌==◌, Bool, map, not}
-use Rattle.mum_users.specs.declared.placing.Placement.{Placement}
-use Rattle.mum_users.specs.declared.user.User.{User}
+use Rattle.mum_users.specs.declared.{placing.Placement.Placement, user.User.User}
 use Rattle.mum_users.specs.State.{RosterState}
 
 -- the session has its placement: in this channel, and it may speak there or not

@@ -1,13 +1,8 @@
 -- The sessions of a roster: who is found, and what joins, leaves and changes.
 use Rattle.std.specs.Prelude.{◌≡◌, ℕ, ◌+◌, ◌-◌, ◌^◌, ◌<◌, ◌==◌, ◌||◌, nat_le, not, Bool, false, List, [], ◌∷◌, length, map, filter, find, insert, Option, Some, None, unwrap_or, if◌then◌else◌, IsTrue}
 use Rattle.std.specs.List.{list_any}
-use Rattle.mum_base.specs.declared.number.SessionId.{SessionId}
-use Rattle.mum_base.specs.declared.number.AccountId.{AccountId}
-use Rattle.mum_base.specs.declared.number.ChannelId.{ChannelId}
-use Rattle.mum_base.specs.declared.number.Slot.{Slot}
-use Rattle.mum_users.specs.declared.flags.FlagChange.{FlagChange}
-use Rattle.mum_users.specs.declared.user.User.{User}
-use Rattle.mum_users.specs.declared.fault.UserFault.{UserFault}
+use Rattle.mum_base.specs.declared.number.{SessionId.SessionId, AccountId.AccountId, ChannelId.ChannelId, Slot.Slot}
+use Rattle.mum_users.specs.declared.{flags.FlagChange.FlagChange, user.User.User, fault.UserFault.UserFault}
 use Rattle.mum_users.specs.declared.fault.UserFault.TheVariants.{NameInUse, Full, NoSession, SessionsUsedUp}
 use Rattle.mum_users.specs.Flags.{flagged}
 use Rattle.mum_users.specs.State.{RosterState, has_name, has_number, has_slot, is_of, is_of_session, joining}
@@ -71,7 +66,8 @@ join_fault state name =
 -- each slot below the free one is held, so that is the place of the new row
 abbrev pub joined : RosterState → List ℕ → Option AccountId → List (List ℕ) → RosterState
 joined state name account tokens = record state {
-  sessions = insert state.sessions (free_slot state) (joining (next_number state) (next_slot state) name account tokens);
+  sessions =
+      insert state.sessions (free_slot state) (joining (next_number state) (next_slot state) name account tokens);
   last = state.last + 1;
 }
 
@@ -108,4 +104,5 @@ with_tokens state session tokens = changed state session (λ user. record user {
 -- a text that is not given stays
 abbrev pub with_texts : RosterState → SessionId → Option (List ℕ) → Option (List ℕ) → RosterState
 with_texts state session comment context =
-    changed state session (λ user. record user { comment = unwrap_or comment user.comment; context = unwrap_or context user.context })
+    changed state session
+    (λ user. record user { comment = unwrap_or comment user.comment; context = unwrap_or context user.context })

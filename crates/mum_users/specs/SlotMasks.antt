@@ -1,17 +1,12 @@
 -- Who is where, as masks: for a channel and a word of 128 slots a number with a bit for each slot.
-use Rattle.std.specs.Prelude.{◌≡◌, ℕ, ◌*◌, ◌/◌, ◌%◌, ◌^◌, ◌==◌, ◌&&◌, ◌||◌, not, nat_lt, Bool, List, [], ◌∷◌, count_by, if◌then◌else◌}
-use Rattle.std.specs.Int.{bit_at, bit_not}
-use Rattle.std.specs.Int.RustNames.{bit_or}
-use Rattle.std.specs.List.{list_any}
 use lib.Bits.{bit_and}
 use mir.Syntax.{w128}
+use Rattle.std.specs.Prelude.{◌≡◌, ℕ, ◌*◌, ◌/◌, ◌%◌, ◌^◌, ◌==◌, ◌&&◌, ◌||◌, not, nat_lt, Bool, List, [], ◌∷◌, count_by, if◌then◌else◌}
+use Rattle.std.specs.{Int.bit_at, Int.bit_not, Int.RustNames.bit_or, List.list_any}
 use Rattle.mum_base.specs.declared.number.ChannelId.{ChannelId}
-use Rattle.mum_users.specs.declared.listening.ListenerPair.{ListenerPair}
-use Rattle.mum_users.specs.declared.masks.MaskRow.{MaskRow}
-use Rattle.mum_users.specs.declared.masks.TheConstants.{WORD_SLOTS}
-use Rattle.mum_users.specs.declared.user.User.{User}
-use Rattle.mum_users.specs.Order.{Rises}
-use Rattle.mum_users.specs.State.{RosterState, is_in, is_pair}
+use Rattle.mum_users.specs.declared.{listening.ListenerPair.ListenerPair, masks.MaskRow.MaskRow}
+use Rattle.mum_users.specs.declared.{masks.TheConstants.WORD_SLOTS, user.User.User}
+use Rattle.mum_users.specs.{Order.Rises, State.RosterState, State.is_in, State.is_pair}
 
 -- a session in this slot is in the channel
 abbrev pub has_member_at : RosterState → ChannelId → ℕ → Bool

@@ -1,16 +1,10 @@
 -- What a roster holds, as plain lists.
 use Rattle.std.specs.Prelude.{ℕ, ◌==◌, ◌&&◌, not, nat_lt, nat_le, Bool, false, List, [], length, Option}
-use Rattle.std.specs.List.{list_any}
-use Rattle.std.specs.Str.{bytes_eq}
-use Rattle.mum_base.specs.declared.number.SessionId.{SessionId}
-use Rattle.mum_base.specs.declared.number.AccountId.{AccountId}
-use Rattle.mum_base.specs.declared.number.ChannelId.{ChannelId}
-use Rattle.mum_base.specs.declared.number.Slot.{Slot}
+use Rattle.std.specs.{List.list_any, Str.bytes_eq}
+use Rattle.mum_base.specs.declared.number.{SessionId.SessionId, AccountId.AccountId, ChannelId.ChannelId, Slot.Slot}
 use Rattle.mum_base.specs.declared.number.TheConstants.ChannelId.{ROOT}
-use Rattle.mum_users.specs.declared.user.User.{User}
+use Rattle.mum_users.specs.declared.{user.User.User, listening.ListenerPair.ListenerPair, target.TargetRow.TargetRow}
 use Rattle.mum_users.specs.declared.user.TheConstants.{CONTEXT_BYTES, DEFAULT_SESSIONS_LIMIT, TOKEN_BYTES, TOKENS}
-use Rattle.mum_users.specs.declared.listening.ListenerPair.{ListenerPair}
-use Rattle.mum_users.specs.declared.target.TargetRow.{TargetRow}
 
 -- a roster as plain lists and numbers
 pub record RosterState : Type 0 where

@@ -1,12 +1,9 @@
 -- The voice targets of sessions.
 use Rattle.std.specs.Prelude.{ℕ, ◌==◌, ◌&&◌, ◌||◌, not, nat_lt, Bool, List, [], ◌∷◌, length, filter, find, sum_by, Option, Some, None, if◌then◌else◌}
-use Rattle.std.specs.List.{list_any}
-use Rattle.std.specs.Option.{option_map}
+use Rattle.std.specs.{List.list_any, Option.option_map}
 use Rattle.mum_base.specs.declared.number.SessionId.{SessionId}
 use Rattle.mum_users.specs.declared.target.TheConstants.{LAST_TARGET, TARGET_ITEMS, TARGET_SESSIONS, GROUP_BYTES}
-use Rattle.mum_users.specs.declared.target.Target.{Target}
-use Rattle.mum_users.specs.declared.target.TargetRow.{TargetRow}
-use Rattle.mum_users.specs.declared.fault.UserFault.{UserFault}
+use Rattle.mum_users.specs.declared.{target.Target.Target, target.TargetRow.TargetRow, fault.UserFault.UserFault}
 use Rattle.mum_users.specs.declared.fault.UserFault.TheVariants.{NoSession, TargetId, TargetSize}
 use Rattle.mum_users.specs.State.{RosterState, has_number, is_target}
 

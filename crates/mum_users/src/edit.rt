@@ -69,8 +69,8 @@ fn one_crowds(
         .any(|channel| crowds(listeners, session, *channel, left))
 }
 
-/// Whether one of the channels has more listeners after the change than it may have, where none has
-/// before.
+// Whether one of the channels has more listeners after the change than it may have, where none has
+// before.
 pub(crate) fn crowds_one(listeners: &Listeners, session: SessionId, change: &UserChange) -> bool
     requires few { (channel : ChannelId) →
         count_by (is_of_channel channel) listeners.now ≤ CHANNEL_LISTENERS }
@@ -91,7 +91,7 @@ fn staying_count(pairs: &[ListenerPair], left: &ChannelList) -> usize
         .count()
 }
 
-// Whether the channel is one more for the session, behind those that come later.
+// Whether the channel is one more for the session, after those that come later.
 fn is_one_more(
     listeners: &Listeners,
     session: SessionId,
@@ -106,11 +106,11 @@ fn is_one_more(
     is_new(listeners, session, channel, left) && !is_among(later, channel)
 }
 
-/// Whether the session listens to more channels after the change than it may.
-///
-/// Each channel is sought among those that come later, up to where it comes again. Only those that are
-/// new to the session are, of which 33 differ at most, so all these walks together have at most 33 steps
-/// for each channel of the list. That is a cost, and not proved.
+// Whether the session listens to more channels after the change than it may.
+//
+// Each channel is sought among those that come later, up to where it comes again. Only those that are
+// new to the session are, of which 33 differ at most, so all these walks together have at most 33 steps
+// for each channel of the list. That is a cost, and not proved.
 pub(crate) fn listens_to_too_many(
     listeners: &Listeners,
     session: SessionId,
@@ -135,7 +135,7 @@ pub(crate) fn listens_to_too_many(
     count > LISTENED_CHANNELS
 }
 
-/// Changes the row of the session, with these copies of its texts.
+// Changes the row of the session, with these copies of its texts.
 pub(crate) fn change_row(
     user: &mut User,
     change: &UserChange,

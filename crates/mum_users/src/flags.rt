@@ -15,14 +15,14 @@ pub struct FlagChange {
     pub recording: Option<bool>,
 }
 
-/// Whether one may not speak, and whether one may not hear.
+// Whether one may not speak, and whether one may not hear.
 #[derive(Clone, Copy)]
 pub(crate) struct Silence {
     pub mute: bool,
     pub deaf: bool,
 }
 
-/// Who is deaf is mute too. A change of `mute` is applied before one of `deaf`.
+// Who is deaf is mute too. A change of `mute` is applied before one of `deaf`.
 pub(crate) fn silence_changed(was: Silence, mute: Option<bool>, deaf: Option<bool>) -> Silence
     ensures { result ≡ silence_after mute deaf was }
 {

@@ -17,8 +17,8 @@ use mum_base::{ChannelId, OutOfMemory, SessionId};
 use std::alloc::Global;
 use std::marker::Model;
 
-/// Pairs of a session and a channel, by their sessions and by their channels. Contracts see them by
-/// their sessions.
+// Pairs of a session and a channel, by their sessions and by their channels. Contracts see them by
+// their sessions.
 #[derive(Drop)]
 pub(crate) struct Listeners {
     by_session: Vec<ListenerPair>,
@@ -106,28 +106,28 @@ impl Listeners {
         }
     }
 
-    /// The pairs of a session, by their channels.
+    // The pairs of a session, by their channels.
     pub(crate) fn of_session(&self, session: SessionId) -> &[ListenerPair]
         ensures { result.now ≡ filter (is_of_session session) self.now }
     {
         pairs_of_session(self.by_session.as_slice(), session)
     }
 
-    /// The pairs of a channel, by their sessions.
+    // The pairs of a channel, by their sessions.
     pub(crate) fn of_channel(&self, channel: ChannelId) -> &[ListenerPair]
         ensures { result.now ≡ filter (is_of_channel channel) self.now }
     {
         pairs_of_channel(self.by_channel.as_slice(), channel)
     }
 
-    /// How many channels a session listens to.
+    // How many channels a session listens to.
     pub(crate) fn channel_count(&self, session: SessionId) -> usize
         ensures { result ≡ count_by (is_of_session session) self.now }
     {
         self.of_session(session).len()
     }
 
-    /// How many sessions listen to a channel.
+    // How many sessions listen to a channel.
     pub(crate) fn session_count(&self, channel: ChannelId) -> usize
         ensures { result ≡ count_by (is_of_channel channel) self.now }
     {
@@ -140,7 +140,7 @@ impl Listeners {
         one_is_of(self.of_session(session), channel)
     }
 
-    /// One pair more, if it is not there.
+    // One pair more, if it is not there.
     pub(crate) fn put(&mut self, new: ListenerPair) -> Result<(), OutOfMemory>
         ensures ok { OnOk result (self.new ≡ with_pair pair_below new self.old) }
         ensures err { OnErr result (self.new ≡ self.old) }
@@ -152,7 +152,7 @@ impl Listeners {
         Ok(())
     }
 
-    /// The session listens to these channels, and leaves those.
+    // The session listens to these channels, and leaves those.
     pub(crate) fn change(
         &mut self,
         session: SessionId,
@@ -177,7 +177,7 @@ impl Listeners {
         Ok(())
     }
 
-    /// The session leaves this channel.
+    // The session leaves this channel.
     pub(crate) fn leave(&mut self, session: SessionId, channel: ChannelId)
         ensures { self.new ≡ staying session (channel ∷ []) self.old }
     {
@@ -185,7 +185,7 @@ impl Listeners {
         drop_pair(&mut self.by_channel, session, channel);
     }
 
-    /// The session leaves every channel.
+    // The session leaves every channel.
     pub(crate) fn leave_all(&mut self, session: SessionId)
         ensures { self.new ≡ filter (λ pair. not (is_of_session session pair)) self.old }
     {
@@ -193,7 +193,7 @@ impl Listeners {
         drop_session(&mut self.by_channel, session);
     }
 
-    /// Nobody listens to these channels any more.
+    // Nobody listens to these channels any more.
     pub(crate) fn close<G: ChannelSet>(&mut self, gone: &G)
         ensures { self.new ≡ filter (λ pair. not (G.has_channel gone.now pair.channel)) self.old }
     {
@@ -201,7 +201,7 @@ impl Listeners {
         drop_gone(&mut self.by_channel, gone);
     }
 
-    /// Equal pairs.
+    // Equal pairs.
     pub(crate) fn copy(&self, alloc: Global) -> Result<Listeners, OutOfMemory>
         ensures { IfOk result (λ copy. copy ≡ self.now) }
     {

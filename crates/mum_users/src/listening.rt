@@ -25,7 +25,7 @@ pub struct ListenerPair {
     pub channel: ChannelId,
 }
 
-/// An order of pairs.
+// An order of pairs.
 #[derive(Clone, Copy)]
 pub(crate) enum PairOrder {
     /// By their sessions, those of one session by their channels.
@@ -68,7 +68,7 @@ fn place_of(order: PairOrder, pairs: &[ListenerPair], new: ListenerPair) -> usiz
     pairs.partition_point(|pair| order.is_below(*pair, new))
 }
 
-/// Puts a pair in at its place, if it is not there.
+// Puts a pair in at its place, if it is not there.
 pub(crate) fn put_pair(order: PairOrder, pairs: &mut Vec<ListenerPair>, new: ListenerPair)
     requires rise { Rises (below_in order) pairs.old.items }
     requires room { vec_len pairs.old < vec_capacity pairs.old }
@@ -138,7 +138,7 @@ fn channel_count(pairs: &[ListenerPair], channel: ChannelId) -> usize
     other_channel(pairs, channel).unwrap_or(pairs.len())
 }
 
-/// The pairs of a session among pairs by their sessions. The first is found by binary search.
+// The pairs of a session among pairs by their sessions. The first is found by binary search.
 pub(crate) fn pairs_of_session(pairs: &[ListenerPair], session: SessionId) -> &[ListenerPair]
     requires { Rises pair_below pairs.now }
     ensures { result.now ≡ filter (is_of_session session) pairs.now }
@@ -149,7 +149,7 @@ pub(crate) fn pairs_of_session(pairs: &[ListenerPair], session: SessionId) -> &[
     &rest[..count]
 }
 
-/// The pairs of a channel among pairs by their channels. The first is found by binary search.
+// The pairs of a channel among pairs by their channels. The first is found by binary search.
 pub(crate) fn pairs_of_channel(pairs: &[ListenerPair], channel: ChannelId) -> &[ListenerPair]
     requires { Rises channel_below pairs.now }
     ensures { result.now ≡ filter (is_of_channel channel) pairs.now }
@@ -160,7 +160,7 @@ pub(crate) fn pairs_of_channel(pairs: &[ListenerPair], channel: ChannelId) -> &[
     &rest[..count]
 }
 
-/// Leaves out the pairs of a session.
+// Leaves out the pairs of a session.
 pub(crate) fn drop_session(pairs: &mut Vec<ListenerPair>, session: SessionId)
     ensures { pairs.new.items ≡ filter (λ pair. not (is_of_session session pair)) pairs.old.items }
 {
@@ -179,7 +179,7 @@ pub trait ChannelSet {
         ensures { result ≡ has_channel self.now id };
 }
 
-/// Leaves out the pairs of these channels.
+// Leaves out the pairs of these channels.
 pub(crate) fn drop_gone<G: ChannelSet>(pairs: &mut Vec<ListenerPair>, gone: &G)
     ensures { pairs.new.items ≡ filter (λ pair. not (G.has_channel gone.now pair.channel)) pairs.old.items }
 {
@@ -192,7 +192,7 @@ fn is_left(pair: ListenerPair, session: SessionId, left: &ChannelList) -> bool
     pair.session == session && left.contains(pair.channel)
 }
 
-/// Leaves out the pairs of a session and these channels.
+// Leaves out the pairs of a session and these channels.
 pub(crate) fn drop_channels(pairs: &mut Vec<ListenerPair>, session: SessionId, left: &ChannelList)
     ensures items { pairs.new.items ≡ staying session left.now pairs.old.items }
     ensures len { vec_len pairs.new ≤ vec_len pairs.old }
@@ -201,7 +201,7 @@ pub(crate) fn drop_channels(pairs: &mut Vec<ListenerPair>, session: SessionId, l
     pairs.retain(|pair| !is_left(*pair, session, left));
 }
 
-/// Leaves out the pair of a session and a channel.
+// Leaves out the pair of a session and a channel.
 pub(crate) fn drop_pair(pairs: &mut Vec<ListenerPair>, session: SessionId, channel: ChannelId)
     ensures { pairs.new.items ≡ staying session (channel ∷ []) pairs.old.items }
 {

@@ -48,7 +48,7 @@ fn is_at(rows: &[MaskRow], place: usize, channel: ChannelId, word: usize) -> boo
     place < rows.len() && rows[place].channel == channel && rows[place].word == word
 }
 
-/// The mask of a channel and a word, 0 where it has no row. The row is found by binary search.
+// The mask of a channel and a word, 0 where it has no row. The row is found by binary search.
 pub(crate) fn mask_at(rows: &[MaskRow], channel: ChannelId, word: usize) -> u128
     requires { Rises mask_below rows.now }
     ensures { result ≡ mask_at channel word rows.now }
@@ -61,7 +61,7 @@ pub(crate) fn mask_at(rows: &[MaskRow], channel: ChannelId, word: usize) -> u128
     }
 }
 
-/// Whether a channel has a row. It is found by binary search.
+// Whether a channel has a row. It is found by binary search.
 pub(crate) fn has_row(rows: &[MaskRow], channel: ChannelId) -> bool
     requires { Rises mask_below rows.now }
     ensures { result ≡ list_any (is_row_of channel) rows.now }
@@ -73,7 +73,8 @@ pub(crate) fn has_row(rows: &[MaskRow], channel: ChannelId) -> bool
 // Puts a row in place of the one that is there, or takes that out where the mask is 0.
 fn replace_mask(rows: &mut Vec<MaskRow>, place: usize, new: MaskRow)
     requires within { place < length rows.old.items }
-    ensures items { rows.new.items ≡ (if new.mask == 0 then remove rows.old.items place else set rows.old.items place new) }
+    ensures items { rows.new.items
+        ≡ (if new.mask == 0 then remove rows.old.items place else set rows.old.items place new) }
     ensures len { vec_len rows.new ≤ vec_len rows.old }
     ensures room { vec_capacity rows.old ≤ vec_capacity rows.new }
 {
@@ -91,7 +92,7 @@ fn bit_of(slot: Slot) -> u128
     1u128 << (slot.0 as usize % WORD_SLOTS)
 }
 
-/// Sets the slot for the channel. The row is found by binary search.
+// Sets the slot for the channel. The row is found by binary search.
 pub(crate) fn set_slot(rows: &mut Vec<MaskRow>, channel: ChannelId, slot: Slot)
     requires rise { Rises mask_below rows.old.items }
     requires room { vec_len rows.old < vec_capacity rows.old }
@@ -128,7 +129,7 @@ pub(crate) fn set_slot(rows: &mut Vec<MaskRow>, channel: ChannelId, slot: Slot)
     }
 }
 
-/// Clears the slot for the channel. The row is found by binary search.
+// Clears the slot for the channel. The row is found by binary search.
 pub(crate) fn clear_slot(rows: &mut Vec<MaskRow>, channel: ChannelId, slot: Slot)
     requires { Rises mask_below rows.old.items }
     ensures items { rows.new.items ≡ without_slot channel slot.0 rows.old.items }
@@ -152,7 +153,7 @@ pub(crate) fn clear_slot(rows: &mut Vec<MaskRow>, channel: ChannelId, slot: Slot
     );
 }
 
-/// Sets the slot for the channels of these pairs, from the last on.
+// Sets the slot for the channels of these pairs, from the last on.
 pub(crate) fn set_pairs(rows: &mut Vec<MaskRow>, pairs: &[ListenerPair], slot: Slot)
     requires rise { Rises mask_below rows.old.items }
     requires room { vec_len rows.old + length pairs.now ≤ vec_capacity rows.old }
@@ -166,7 +167,7 @@ pub(crate) fn set_pairs(rows: &mut Vec<MaskRow>, pairs: &[ListenerPair], slot: S
     }
 }
 
-/// Clears the slot for the channels of these pairs, from the last on.
+// Clears the slot for the channels of these pairs, from the last on.
 pub(crate) fn clear_pairs(rows: &mut Vec<MaskRow>, pairs: &[ListenerPair], slot: Slot)
     requires { Rises mask_below rows.old.items }
     ensures items { rows.new.items ≡ without_pairs slot.0 pairs.now rows.old.items }
@@ -181,7 +182,7 @@ pub(crate) fn clear_pairs(rows: &mut Vec<MaskRow>, pairs: &[ListenerPair], slot:
     }
 }
 
-/// A session in a slot goes from one channel to another.
+// A session in a slot goes from one channel to another.
 pub(crate) fn move_slot(rows: &mut Vec<MaskRow>, slot: Slot, from: ChannelId, to: ChannelId)
     requires rise { Rises mask_below rows.old.items }
     requires room { length (without_slot from slot.0 rows.old.items) < vec_capacity rows.old }
@@ -192,7 +193,7 @@ pub(crate) fn move_slot(rows: &mut Vec<MaskRow>, slot: Slot, from: ChannelId, to
     set_slot(rows, to, slot);
 }
 
-/// The rows of these sessions, each in the channel in which it is, in place of those that are there.
+// The rows of these sessions, each in the channel in which it is, in place of those that are there.
 pub(crate) fn put_members(rows: &mut Vec<MaskRow>, users: &[User])
     requires room { length users.now ≤ vec_capacity rows.old }
     ensures items { rows.new.items ≡ masks_of users.now }
@@ -207,7 +208,7 @@ pub(crate) fn put_members(rows: &mut Vec<MaskRow>, users: &[User])
     }
 }
 
-/// Equal rows, with room for one of each session.
+// Equal rows, with room for one of each session.
 pub(crate) fn copy_of_masks(alloc: Global, rows: &[MaskRow]) -> Result<Vec<MaskRow>, OutOfMemory>
     ensures items { IfOk result (λ copy. copy.items ≡ rows.now) }
     ensures room { IfOk result (λ copy. SLOTS ≤ vec_capacity copy) }
@@ -217,7 +218,7 @@ pub(crate) fn copy_of_masks(alloc: Global, rows: &[MaskRow]) -> Result<Vec<MaskR
     Ok(copy)
 }
 
-/// Leaves out the rows of these channels.
+// Leaves out the rows of these channels.
 pub(crate) fn drop_masks<G: ChannelSet>(rows: &mut Vec<MaskRow>, gone: &G)
     ensures { rows.new.items ≡ filter (λ row. not (G.has_channel gone.now row.channel)) rows.old.items }
 {

@@ -38,7 +38,7 @@ fn apply_placement(user: &mut User, placement: Placement) -> bool
     moved
 }
 
-/// Applies the placement of each session. Says whether one of them is in another channel.
+// Applies the placement of each session. Says whether one of them is in another channel.
 pub(crate) fn place_each<S: Placements>(users: &mut Vec<User>, placements: &S) -> bool
     ensures placed { users.new.items ≡ map (with_placement (S.placement_of placements.now)) users.old.items }
     ensures moved { result ≡ list_any (is_moved (S.placement_of placements.now)) users.old.items }

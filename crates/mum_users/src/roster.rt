@@ -80,10 +80,10 @@ impl Roster {
     ghost use Rattle.mum_users.specs.State.{empty_roster, has_number, is_in};
     ghost use Rattle.mum_users.specs.Placed.{with_placements};
     ghost use Rattle.mum_users.specs.Proper.{IsProper};
-    ghost use Rattle.mum_users.specs.SlotMasks.{AreMasks, has_listener_at, has_member_at};
+    ghost use Rattle.mum_users.specs.SlotMasks.{has_listener_at, has_member_at};
     ghost use Rattle.mum_users.specs.declared.masks.TheConstants.{WORD_SLOTS};
     ghost use Rattle.mum_users.specs.Sessions.{absent_fault, join_fault, joined, left, next_join, next_number, placed, session_at, session_of, suppressed, with_flags, with_texts, with_tokens, IsLeastFree};
-    ghost use Rattle.mum_users.specs.Listeners.{listen_fault, listeners_of, listening, listens, pairs_of, without_channels};
+    ghost use Rattle.mum_users.specs.Listeners.{listen_fault, listening, listens, pairs_of, without_channels};
     ghost use Rattle.mum_users.specs.Edit.{edit_fault, edited, not_listening, user_edit_of};
     ghost use Rattle.mum_users.specs.Targets.{target_fault, target_of, targeted};
 
@@ -148,14 +148,6 @@ impl Roster {
         mask_at(self.member_rows.as_slice(), channel, word)
     }
 
-    /// The masks of all channels in which somebody is, by their channels, those of one channel by their
-    /// words. None is 0.
-    pub fn member_rows(&self) -> &[MaskRow]
-        ensures { AreMasks (has_member_at self.now) result.now }
-    {
-        self.member_rows.as_slice()
-    }
-
     /// The slots of those that listen to a channel, as masks: bit b is set exactly where a session in
     /// slot 128 * `word` + b listens to the channel. It takes no memory, and a number of steps that grows
     /// as the logarithm of the number of pairs.
@@ -164,14 +156,6 @@ impl Roster {
             bit_at result bit ≡ (if has_listener_at self.now channel (WORD_SLOTS * word + bit) then 1 else 0) }
     {
         mask_at(self.listener_rows.as_slice(), channel, word)
-    }
-
-    /// The masks of all channels to which somebody listens, by their channels, those of one channel by
-    /// their words. None is 0.
-    pub fn listener_rows(&self) -> &[MaskRow]
-        ensures { AreMasks (has_listener_at self.now) result.now }
-    {
-        self.listener_rows.as_slice()
     }
 
     /// The most sessions that may be here at a time.
@@ -412,14 +396,6 @@ impl Roster {
         self.listeners.of_session(session)
     }
 
-    /// The pairs of a channel and the sessions that listen to it, by the sessions. The first is found by
-    /// binary search.
-    pub fn listeners_of(&self, channel: ChannelId) -> &[ListenerPair]
-        ensures { result.now ≡ listeners_of self.now channel }
-    {
-        self.listeners.of_channel(channel)
-    }
-
     /// Changes several parts of a session at once, or, if it is refused, none.
     ///
     /// Refused in this order: `NoSession` where it is not here; `ListenerLimit` where more than 64
@@ -468,7 +444,8 @@ impl Roster {
     }
 
     /// The voice target of a session under a number, in a number of steps that grows as the logarithm
-    /// of the number of targets. `None` where the session is not here or has none under the number.
+    /// of the number of targets. `None` where the session is not here or has none under the number. It takes no
+    /// memory.
     pub fn target(&self, session: SessionId, id: u8) -> Option<&Target>
         ensures { option_copied result ≡ target_of self.now session id }
     {

@@ -13,7 +13,7 @@ use crate::user::User;
 use mum_base::{OutOfMemory, SLOTS, SessionId, Slot};
 use std::alloc::Global;
 
-/// A session with its slot.
+// A session with its slot.
 #[derive(Clone, Copy)]
 pub(crate) struct SessionSlot {
     pub session: SessionId,
@@ -43,7 +43,7 @@ fn place_of(users: &[User], slot: Slot) -> Option<usize>
     }
 }
 
-/// Whether a session is here, found by binary search.
+// Whether a session is here, found by binary search.
 pub(crate) fn is_here(users: &[User], slots: &[SessionSlot], session: SessionId) -> bool
     requires rise { SlotsRise SLOTS 0 users.now }
     requires numbered { IsNumbered users.now slots.now }
@@ -58,7 +58,7 @@ pub(crate) fn name_in_use(users: &[User], name: &str) -> bool
     users.iter().any(|user| user.name.as_str() == name)
 }
 
-/// The place of the row of a session, found by binary search.
+// The place of the row of a session, found by binary search.
 pub(crate) fn index_of(users: &[User], slots: &[SessionSlot], session: SessionId) -> Option<usize>
     requires rise { SlotsRise SLOTS 0 users.now }
     requires numbered { IsNumbered users.now slots.now }
@@ -70,7 +70,7 @@ pub(crate) fn index_of(users: &[User], slots: &[SessionSlot], session: SessionId
     }
 }
 
-/// The row of a session, found by binary search.
+// The row of a session, found by binary search.
 pub(crate) fn row_of<'a>(
     users: &'a [User],
     slots: &[SessionSlot],
@@ -86,21 +86,21 @@ pub(crate) fn row_of<'a>(
     }
 }
 
-/// Takes the row of a session out.
+// Takes the row of a session out.
 pub(crate) fn take_user(users: &mut Vec<User>, session: SessionId)
     ensures { users.new.items ≡ filter (λ user. not (has_number session user)) users.old.items }
 {
     users.retain(|user| user.session != session);
 }
 
-/// Takes the slot of a session out.
+// Takes the slot of a session out.
 pub(crate) fn take_slot(slots: &mut Vec<SessionSlot>, session: SessionId)
     ensures { slots.new.items ≡ filter (λ own. not (is_slot_of session own)) slots.old.items }
 {
     slots.retain(|own| own.session != session);
 }
 
-/// Equal rows in the same order.
+// Equal rows in the same order.
 pub(crate) fn copy_of_users(alloc: Global, users: &[User]) -> Result<Vec<User>, OutOfMemory>
     ensures { IfOk result (λ copy. copy.items ≡ users.now) }
 {
@@ -111,7 +111,7 @@ pub(crate) fn copy_of_users(alloc: Global, users: &[User]) -> Result<Vec<User>, 
     Ok(copies)
 }
 
-/// The row in a slot, found by binary search.
+// The row in a slot, found by binary search.
 pub(crate) fn row_at(users: &[User], slot: Slot) -> Option<&User>
     requires { SlotsRise SLOTS 0 users.now }
     ensures { option_copied result ≡ find (has_slot slot) users.now }
@@ -122,7 +122,7 @@ pub(crate) fn row_at(users: &[User], slot: Slot) -> Option<&User>
     }
 }
 
-/// The least slot that no row has.
+// The least slot that no row has.
 pub(crate) fn free_slot(users: &[User]) -> usize
     ensures least { result ≡ free_slot_from 0 users.now }
     ensures within { result ≤ length users.now }

@@ -93,7 +93,7 @@ impl Target {
     }
 }
 
-/// Equal rows in the same order.
+// Equal rows in the same order.
 pub(crate) fn copy_of_targets(
     alloc: Global,
     rows: &[TargetRow],
@@ -158,7 +158,7 @@ fn is_at(rows: &[TargetRow], place: usize, session: SessionId, id: u8) -> bool
     place < rows.len() && rows[place].session == session && rows[place].id == id
 }
 
-/// The row of this number of this session, found by binary search.
+// The row of this number of this session, found by binary search.
 pub(crate) fn row_of_target(rows: &[TargetRow], session: SessionId, id: u8) -> Option<&TargetRow>
     requires { Rises row_below rows.now }
     ensures { option_copied result ≡ find (is_target session id) rows.now }
@@ -171,7 +171,7 @@ pub(crate) fn row_of_target(rows: &[TargetRow], session: SessionId, id: u8) -> O
     }
 }
 
-/// Puts a target in at its place, or in the place of that of the same number.
+// Puts a target in at its place, or in the place of that of the same number.
 pub(crate) fn put_target(rows: &mut Vec<TargetRow>, new: TargetRow) -> Result<(), OutOfMemory>
     requires { Rises row_below rows.old.items }
     ensures ok { OnOk result (rows.new.items ≡ with_target new rows.old.items) }
@@ -186,14 +186,14 @@ pub(crate) fn put_target(rows: &mut Vec<TargetRow>, new: TargetRow) -> Result<()
     Ok(())
 }
 
-/// Takes a target out, if it is set.
+// Takes a target out, if it is set.
 pub(crate) fn take_target(rows: &mut Vec<TargetRow>, session: SessionId, id: u8)
     ensures { rows.new.items ≡ filter (λ row. not (is_target session id row)) rows.old.items }
 {
     rows.retain(|row| !(row.session == session && row.id == id));
 }
 
-/// Takes the targets of a session out.
+// Takes the targets of a session out.
 pub(crate) fn take_targets(rows: &mut Vec<TargetRow>, session: SessionId)
     ensures { rows.new.items ≡ filter (λ row. not (is_of session row)) rows.old.items }
 {

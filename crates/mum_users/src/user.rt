@@ -69,7 +69,7 @@ pub struct User {
     pub context: Octets,
 }
 
-/// The same texts in the same order, without a copy of their bytes.
+// The same texts in the same order, without a copy of their bytes.
 pub(crate) fn shared_texts(alloc: Global, texts: &[Text]) -> Result<Items<Text>, OutOfMemory>
     ensures { IfOk result (λ copy. copy ≡ texts.now) }
 {
@@ -80,7 +80,7 @@ pub(crate) fn shared_texts(alloc: Global, texts: &[Text]) -> Result<Items<Text>,
     Ok(Items::from_vec(copies))
 }
 
-/// The row of a session that joins: in the root channel, with no flag and no texts.
+// The row of a session that joins: in the root channel, with no flag and no texts.
 pub(crate) fn joining_user(
     alloc: Global,
     session: SessionId,
@@ -135,7 +135,7 @@ impl User {
     }
 }
 
-/// A copy of these bytes, if there are any.
+// A copy of these bytes, if there are any.
 pub(crate) fn copy_of_octets(
     alloc: Global,
     bytes: Option<&[u8]>,
@@ -148,7 +148,7 @@ pub(crate) fn copy_of_octets(
     }
 }
 
-/// Changes the comment and the context of a row, as far as they are given.
+// Changes the comment and the context of a row, as far as they are given.
 pub(crate) fn change_texts(user: &mut User, comment: Option<Text>, context: Option<Octets>)
     ensures { user.new ≡ record user.old {
       comment = unwrap_or comment user.old.comment;
@@ -163,7 +163,7 @@ pub(crate) fn change_texts(user: &mut User, comment: Option<Text>, context: Opti
     }
 }
 
-/// Changes the flags of a row.
+// Changes the flags of a row.
 pub(crate) fn change_flags(user: &mut User, change: FlagChange)
     ensures { user.new ≡ flagged user.old change }
 {

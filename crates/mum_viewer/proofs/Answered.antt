@@ -1,11 +1,6 @@
 -- What a turn comes to, and how many views there are after a connection.
-use Rattle.std.proofs.Common.{◌≡◌, ℕ, ◌+◌, Bool, true, false, List, Result, Ok, Err, IsTrue, refl, ap}
-use Rattle.std.specs.Prelude.{◌↔◌}
-use Rattle.std.specs.declared.alloc.AllocError.{AllocError}
+use Rattle.mum_viewer.proofs.Common.{◌≡◌, ℕ, ◌+◌, Bool, true, false, List, Result, Ok, Err, IsTrue, refl, ap, ◌↔◌, AllocError, LinkFacts, turn_of, Takes, ViewsFacts}
 use Rattle.mum_crew.specs.declared.role.Turn.TheVariants as turns
-use Rattle.mum_io.specs.Link.{LinkFacts}
-use Rattle.mum_viewer.specs.Viewer.{turn_of}
-use Rattle.mum_viewer.specs.Views.{Takes, ViewsFacts}
 
 pub is_done : (ended stepped answered : Bool) → (turn_of ended stepped answered ≡ turns.Done) ↔ IsTrue ended
 is_done true stepped answered = (λ e. refl, λ e. refl)

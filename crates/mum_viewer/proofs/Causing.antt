@@ -1,25 +1,7 @@
 -- What the answer of a turn shows.
-use Rattle.std.proofs.Common.{◌≡◌, ◌⊎◌, inl, inr, ◌+◌, Bool, true, false, IsTrue, List, [], ◌∷◌, refl, sym, ap, subst, ◌∙◌}
-use Rattle.std.specs.Prelude.{◌↔◌}
-use Rattle.std.specs.List.{AllByRecursion}
-use Rattle.mum_crew.specs.Along.{Along}
-use Rattle.mum_crew.specs.declared.role.Turn.{Turn}
+use Rattle.mum_viewer.proofs.Common.{◌≡◌, ◌⊎◌, inl, inr, ◌+◌, Bool, true, false, IsTrue, List, [], ◌∷◌, refl, sym, ap, subst, ◌∙◌, ◌↔◌, AllByRecursion, Along, Turn, Rose, AcceptCounts, DoorFacts, Accept, Conn, NotYet, End, Failed, LinkFacts, AllStalled, IsOpenView, HasAnswered, HasMoved, HasNothingToDo, SomeMoved, OpenSteps, ViewFacts, ViewMoves, counted_by, Asks, ViewerFacts, ViewerTurned, has_ended, is_not_to_ask, turn_of, Answers, StepsViews, ViewsFacts, Counted, Went, Waits, Wrote, Finished, Broke}
+use Rattle.mum_viewer.proofs.{Answered.is_done, Answered.one_more, Idle.all_stalled}
 use Rattle.mum_crew.specs.declared.role.Turn.TheVariants as turns
-use Rattle.mum_io.specs.Counts.{Rose}
-use Rattle.mum_io.specs.Door.{AcceptCounts, DoorFacts}
-use Rattle.mum_io.specs.declared.door.Accept.{Accept}
-use Rattle.mum_io.specs.declared.door.Accept.TheVariants.{Conn, NotYet, End, Failed}
-use Rattle.mum_io.specs.Link.{LinkFacts}
-use Rattle.mum_viewer.proofs.Answered.{is_done, one_more}
-use Rattle.mum_viewer.proofs.Idle.{all_stalled}
-use Rattle.mum_viewer.specs.Laws.{AllStalled, IsOpenView}
-use Rattle.mum_viewer.specs.Turns.{HasAnswered, HasMoved, HasNothingToDo, SomeMoved}
-use Rattle.mum_viewer.specs.View.{OpenSteps, ViewFacts, ViewMoves, counted_by}
-use Rattle.mum_viewer.specs.Viewer.{Asks, ViewerFacts, ViewerTurned, has_ended, is_not_to_ask, turn_of}
-use Rattle.mum_viewer.specs.Views.{Answers, StepsViews, ViewsFacts}
-use Rattle.mum_viewer.specs.declared.view.Counted.{Counted}
-use Rattle.mum_viewer.specs.declared.view.Went.{Went}
-use Rattle.mum_viewer.specs.declared.view.Went.TheVariants.{Waits, Wrote, Finished, Broke}
 
 -- ---- steps
 

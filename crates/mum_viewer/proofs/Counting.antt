@@ -1,22 +1,5 @@
 -- How many texts were taken whole.
-use Rattle.std.proofs.Common.{◌≡◌, ℕ, zero, suc, ◌+◌, Bool, true, false, List, [], ◌∷◌, Result, Ok, Err, refl, ap, ◌∙◌, arith}
-use Rattle.std.specs.declared.alloc.AllocError.{AllocError}
-use Rattle.mum_crew.specs.Along.{Along}
-use Rattle.mum_crew.specs.Turns.{TurnsTo}
-use Rattle.mum_crew.specs.declared.role.Turn.{Turn}
-use Rattle.mum_doorway.specs.Doors.{given_after_all}
-use Rattle.mum_io.specs.Counts.{next_count}
-use Rattle.mum_io.specs.declared.door.Accept.{Accept}
-use Rattle.mum_io.specs.declared.door.Accept.TheVariants.{Conn, NotYet, End, Failed}
-use Rattle.mum_io.specs.Link.{LinkFacts}
-use Rattle.mum_io.specs.Door.{DoorFacts}
-use Rattle.mum_viewer.specs.Turns.{HasTurned, finished_along, finished_in, finished_over, finished_with}
-use Rattle.mum_viewer.specs.View.{ViewFacts, ViewMoves, counted_by}
-use Rattle.mum_viewer.specs.Viewer.{Asks, ViewerFacts, ViewerTurned, is_not_to_ask}
-use Rattle.mum_viewer.specs.Views.{Answers, Takes, ViewsFacts}
-use Rattle.mum_viewer.specs.declared.view.Counted.{Counted}
-use Rattle.mum_viewer.specs.declared.view.Went.{Went}
-use Rattle.mum_viewer.specs.declared.view.Went.TheVariants.{Waits, Wrote, Finished, Broke}
+use Rattle.mum_viewer.proofs.Common.{◌≡◌, ℕ, zero, suc, ◌+◌, Bool, true, false, List, [], ◌∷◌, Result, Ok, Err, refl, ap, ◌∙◌, arith, AllocError, Along, TurnsTo, Turn, given_after_all, next_count, Accept, Conn, NotYet, End, Failed, LinkFacts, DoorFacts, HasTurned, finished_along, finished_in, finished_over, finished_with, ViewFacts, ViewMoves, counted_by, Asks, ViewerFacts, ViewerTurned, is_not_to_ask, Answers, Takes, ViewsFacts, Counted, Went, Waits, Wrote, Finished, Broke}
 
 next_first : (count more : ℕ) → given_after_all (next_count count) more ≡ next_count (given_after_all count more)
 next_first count zero = refl

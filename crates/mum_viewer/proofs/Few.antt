@@ -1,20 +1,5 @@
 -- How many views are open.
-use Rattle.std.proofs.Common.{◌≡◌, ℕ, ◌<◌, ◌≤◌, nat_le, Bool, true, false, List, [], ◌∷◌, length, Result, Ok, Err, refl, sym, ap, subst, arith}
-use Rattle.std.specs.declared.alloc.AllocError.{AllocError}
-use Rattle.std.proofs.lemmas.Bool.{leb-false, or_parts}
-use Rattle.std.proofs.lemmas.List.{length-append}
-use Rattle.mum_crew.proofs.AlongLemmas.{along_long, fewer}
-use Rattle.mum_crew.specs.Turns.{TurnsTo}
-use Rattle.mum_crew.specs.declared.role.Turn.{Turn}
-use Rattle.mum_io.specs.declared.door.Accept.{Accept}
-use Rattle.mum_io.specs.declared.door.Accept.TheVariants.{Conn, NotYet, End, Failed}
-use Rattle.mum_io.specs.Link.{LinkFacts}
-use Rattle.mum_io.specs.Door.{DoorFacts}
-use Rattle.mum_viewer.specs.Turns.{HasTurned}
-use Rattle.mum_viewer.specs.View.{ViewFacts, ViewMoves, is_open, new_view}
-use Rattle.mum_viewer.specs.Viewer.{Asks, ViewerFacts, ViewerTurned, is_not_to_ask, is_over}
-use Rattle.mum_viewer.specs.Views.{Answers, StepsViews, Takes, ViewsFacts}
-use Rattle.mum_viewer.specs.declared.list.TheConstants.{VIEWS_OPEN}
+use Rattle.mum_viewer.proofs.Common.{◌≡◌, ℕ, ◌<◌, ◌≤◌, nat_le, Bool, true, false, List, [], ◌∷◌, length, Result, Ok, Err, refl, sym, ap, subst, arith, AllocError, leb-false, or_parts, length-append, along_long, fewer, TurnsTo, Turn, Accept, Conn, NotYet, End, Failed, LinkFacts, DoorFacts, HasTurned, ViewFacts, ViewMoves, is_open, new_view, Asks, ViewerFacts, ViewerTurned, is_not_to_ask, is_over, Answers, StepsViews, Takes, ViewsFacts, VIEWS_OPEN}
 
 module _ {L : Type 0} (facts : L → LinkFacts) where
   steps_few : (old new : ViewsFacts L) (worked : Bool) → StepsViews facts old worked new → length old.list ≤ VIEWS_OPEN → length new.list ≤ VIEWS_OPEN

@@ -1,15 +1,5 @@
 -- Views of which none did anything.
-use Rattle.std.proofs.Common.{◌≡◌, false, not, if◌then◌else◌, List, [], ◌∷◌, filter, refl, sym, ap, subst, ◌∙◌}
-use Rattle.std.specs.List.{AllByRecursion}
-use Rattle.mum_crew.specs.Along.{Along}
-use Rattle.mum_io.specs.Counts.{Rose}
-use Rattle.mum_io.specs.Link.{LinkFacts}
-use Rattle.mum_viewer.specs.Laws.{AllStalled, IsOpenView}
-use Rattle.mum_viewer.specs.View.{OpenSteps, ViewFacts, ViewMoves, counted_by, is_open}
-use Rattle.mum_viewer.specs.Views.{StepsViews, ViewsFacts}
-use Rattle.mum_viewer.specs.declared.view.Counted.{Counted}
-use Rattle.mum_viewer.specs.declared.view.Went.{Went}
-use Rattle.mum_viewer.specs.declared.view.Went.TheVariants.{Waits, Wrote, Finished, Broke}
+use Rattle.mum_viewer.proofs.Common.{◌≡◌, false, not, if◌then◌else◌, List, [], ◌∷◌, filter, refl, sym, ap, subst, ◌∙◌, AllByRecursion, Along, Rose, LinkFacts, AllStalled, IsOpenView, OpenSteps, ViewFacts, ViewMoves, counted_by, is_open, StepsViews, ViewsFacts, Counted, Went, Waits, Wrote, Finished, Broke}
 
 all_stay : {L : Type 0} (views : List (ViewFacts L)) → AllByRecursion IsOpenView views → filter is_open views ≡ views
 all_stay [] open_ones = refl

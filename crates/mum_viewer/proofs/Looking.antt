@@ -1,18 +1,5 @@
 -- What a look finds, and whether the text that was kept is still right.
-use Rattle.std.proofs.Common.{◌≡◌, ℕ, ◌==◌, List, length, Option, Some, None, Result, Ok, Err, true, sym, ap, ◌∙◌, arith}
-use Rattle.std.specs.Prelude.{IfOk, IfSome}
-use Rattle.std.specs.declared.alloc.AllocError.{AllocError}
-use Rattle.std.proofs.lemmas.Bool.{eqb-true}
-use Rattle.mum_published.proofs.Prefixes.{prefix_whole}
-use Rattle.mum_published.specs.Calls.{MayMeet, looked, state_of}
-use Rattle.mum_published.specs.Facts.{PassFacts}
-use Rattle.mum_published.specs.declared.ask.Ask.{Ask}
-use Rattle.mum_state.specs.State.{StateValue}
-use Rattle.mum_state.specs.declared.edit.Edit.{Edit}
-use Rattle.mum_viewer.specs.Look.{Looks}
-use Rattle.mum_viewer.specs.Picture.{picture_of}
-use Rattle.mum_viewer.specs.Text.{picture_text, view_text}
-use Rattle.mum_viewer.specs.declared.picture.Picture.{Picture}
+use Rattle.mum_viewer.proofs.Common.{◌≡◌, ℕ, ◌==◌, List, length, Option, Some, None, Result, Ok, Err, true, sym, ap, ◌∙◌, arith, IfOk, IfSome, AllocError, eqb-true, prefix_whole, MayMeet, looked, state_of, PassFacts, Ask, StateValue, Edit, Looks, picture_of, picture_text, view_text, Picture}
 
 -- a look that saw as many edits as were known saw these
 pub same_known : (old new : PassFacts) (edits : List Edit) (ask : Ask) (before after : ℕ) → MayMeet old edits → new ≡ looked old edits ask

@@ -1,14 +1,5 @@
 -- No number of a view is a float.
-use Rattle.std.proofs.Common.{◌≡◌, ◌||◌, false, List, [], ◌∷◌, map, Option, Some, None, refl, ap, ◌∙◌}
-use Rattle.serde_json.specs.Data.{Data}
-use Rattle.serde_json.specs.View.{items_of}
-use Rattle.serde_json.specs.Written.{has_float, items_have_float}
-use Rattle.mum_base.specs.declared.number.AccountId.{AccountId}
-use Rattle.mum_base.specs.declared.number.ChannelId.{ChannelId}
-use Rattle.mum_viewer.specs.Text.{account_or_null, channel_numbers, channel_object, channel_or_null, picture_object, user_object, whole}
-use Rattle.mum_viewer.specs.declared.picture.Picture.{Picture}
-use Rattle.mum_viewer.specs.declared.picture.ShownChannel.{ShownChannel}
-use Rattle.mum_viewer.specs.declared.picture.ShownUser.{ShownUser}
+use Rattle.mum_viewer.proofs.Common.{◌≡◌, ◌||◌, false, List, [], ◌∷◌, map, Option, Some, None, refl, ap, ◌∙◌, Data, items_of, has_float, items_have_float, AccountId, ChannelId, account_or_null, channel_numbers, channel_object, channel_or_null, picture_object, user_object, whole, Picture, ShownChannel, ShownUser}
 
 none_in_list : {X : Type 0} (of : X → Data) → ((x : X) → has_float (of x) ≡ false) → (xs : List X) → items_have_float (items_of (map of xs)) ≡ false
 none_in_list of none [] = refl

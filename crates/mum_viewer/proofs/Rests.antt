@@ -1,7 +1,5 @@
 -- What is left of a text of which more was written.
-use Rattle.std.proofs.Common.{◌≡◌, ℕ, zero, suc, ◌+◌, ◌-◌, ◌≤◌, List, [], ◌∷◌, drop, length, sym, ap, ◌∙◌, arith}
-use Rattle.std.proofs.Math.Seq.{drop-nil}
-use lib.ListN.{length-drop}
+use Rattle.mum_viewer.proofs.Common.{◌≡◌, ℕ, zero, suc, ◌+◌, ◌-◌, ◌≤◌, List, [], ◌∷◌, drop, length, sym, ap, ◌∙◌, arith, drop-nil, length-drop}
 
 dropped : (text : List ℕ) (done n : ℕ) → drop (done + n) text ≡ drop n (drop done text)
 dropped text zero n = let e : 0 + n ≡ n = omega arith in ap (λ k. drop k text) e

@@ -1,16 +1,5 @@
 -- The rows of a tree by their index.
-use Rattle.std.proofs.Common.{◌≡◌, ℕ, List, Option, Some, None, get_or, refl, sym, ap, ◌∙◌}
-use Rattle.std.specs.Prelude.{slice_get}
-use Rattle.std.specs.Option.{option_map}
-use Rattle.std.proofs.lemmas.Option.{get_or_from_slice_get, slice_get-map, slice_get_within}
-use Rattle.mum_base.specs.declared.number.ChannelId.{ChannelId}
-use Rattle.mum_tree.proofs.Find.{row_of_at}
-use Rattle.mum_tree.specs.declared.channel.Channel.{Channel}
-use Rattle.mum_tree.specs.declared.channel.Row.{Row}
-use Rattle.mum_tree.specs.Rows.{number, row_of, Rise}
-use Rattle.mum_tree.specs.State.{TreeState}
-use Rattle.mum_viewer.specs.Picture.{shown_channel, shown_channels}
-use Rattle.mum_viewer.specs.declared.picture.ShownChannel.{ShownChannel}
+use Rattle.mum_viewer.proofs.Common.{◌≡◌, ℕ, List, Option, Some, None, get_or, refl, sym, ap, ◌∙◌, slice_get, option_map, get_or_from_slice_get, slice_get-map, slice_get_within, ChannelId, row_of_at, Channel, Row, number, row_of, Rise, TreeState, shown_channel, shown_channels, ShownChannel}
 
 found : (rows : List Row) (index : ℕ) (id : ChannelId) (o : Option Row) → Rise rows → slice_get rows index ≡ o → Some id ≡ option_map (λ row. row.channel.id) o → row_of rows id ≡ o
 found rows index id None rise got named = absurd (cc named)

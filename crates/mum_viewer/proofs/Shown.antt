@@ -1,20 +1,5 @@
 -- What a view has sent of its text, step by step.
-use Rattle.std.proofs.Common.{◌≡◌, ◌≢◌, IsTrue, ◌⊎◌, inl, inr, ℕ, Bool, true, false, List, [], ◌∷◌, ◌++◌, refl, sym, ap, subst, ◌∙◌, append_assoc}
-use Rattle.std.proofs.KnownBytes.{Appends-kept, Appends-nil, Appends-trans}
-use Rattle.std.proofs.lemmas.List.{append-nil}
-use Rattle.std.proofs.lemmas.Bool.{or_parts}
-use Rattle.std.specs.List.{list_any}
-use Rattle.std.specs.Prelude.{◌↔◌}
-use Rattle.mum_io.specs.Counts.{Rose}
-use Rattle.mum_io.specs.Link.{Appends, LinkFacts}
-use Rattle.mum_state.specs.State.{StateValue}
-use Rattle.serde_json.specs.Written.{compact_text}
-use Rattle.mum_viewer.specs.Laws.{HasSent, StepsTo, is_finished}
-use Rattle.mum_viewer.specs.Picture.{picture_of}
-use Rattle.mum_viewer.specs.Text.{picture_object, view_text}
-use Rattle.mum_viewer.specs.View.{OpenSteps, Rests, Sends, ViewFacts, ViewSteps, new_view}
-use Rattle.mum_viewer.specs.declared.view.Went.{Went}
-use Rattle.mum_viewer.specs.declared.view.Went.TheVariants.{Waits, Wrote, Finished, Broke}
+use Rattle.mum_viewer.proofs.Common.{◌≡◌, ◌≢◌, IsTrue, ◌⊎◌, inl, inr, ℕ, Bool, true, false, List, [], ◌∷◌, ◌++◌, refl, sym, ap, subst, ◌∙◌, append_assoc, Appends-kept, Appends-nil, Appends-trans, append-nil, or_parts, list_any, ◌↔◌, Rose, Appends, LinkFacts, StateValue, compact_text, HasSent, StepsTo, is_finished, picture_of, picture_object, view_text, OpenSteps, Rests, Sends, ViewFacts, ViewSteps, new_view, Went, Waits, Wrote, Finished, Broke}
 
 ends_in_line : (text : List ℕ) → text ++ 10 ∷ [] ≢ []
 ends_in_line [] = λ none. absurd (cc none)

@@ -1,11 +1,5 @@
 -- Views of small states, worked out by hand.
-use Rattle.std.proofs.Common.{◌≡◌, List, [], ◌∷◌, ◌++◌, codes, refl}
-use Rattle.std.specs.Fmt.{digits}
-use Rattle.serde_json.proofs.OnLiterals.{serde_json_on_literals}
-use Rattle.mum_state.specs.declared.edit.Edit.{Edit}
-use Rattle.mum_state.specs.State.{empty_state}
-use Rattle.mum_state.proofs.Scenes.{join, state}
-use Rattle.mum_viewer.specs.Text.{view_text}
+use Rattle.mum_viewer.proofs.Common.{◌≡◌, List, [], ◌∷◌, ◌++◌, codes, refl, digits, serde_json_on_literals, Edit, empty_state, join, state, view_text}
 
 abbrev two_joined : List Edit
 two_joined = join 1 0 (codes "ann") ∷ join 2 1 (codes "bob") ∷ []

@@ -1,11 +1,5 @@
 -- What a write makes of a view.
-use Rattle.std.proofs.Common.{◌≡◌, ◌≢◌, ℕ, zero, suc, ◌≤◌, ◌==◌, true, false, List, [], ◌∷◌, ◌++◌, length, take, drop, IsTrue, refl, sym, ap, ◌∙◌, arith}
-use Rattle.std.proofs.KnownBytes.{Appends-kept, Appends-nil}
-use Rattle.std.proofs.lemmas.Bool.{eqb-true}
-use Rattle.std.proofs.lemmas.List.{take-append-drop}
-use Rattle.mum_io.specs.Link.{Appends, Keeps, LinkFacts}
-use Rattle.mum_viewer.specs.View.{OpenSteps, ViewFacts}
-use Rattle.mum_viewer.specs.declared.view.Went.TheVariants.{Finished, Wrote}
+use Rattle.mum_viewer.proofs.Common.{◌≡◌, ◌≢◌, ℕ, zero, suc, ◌≤◌, ◌==◌, true, false, List, [], ◌∷◌, ◌++◌, length, take, drop, IsTrue, refl, sym, ap, ◌∙◌, arith, Appends-kept, Appends-nil, eqb-true, take-append-drop, Appends, Keeps, LinkFacts, OpenSteps, ViewFacts, Finished, Wrote}
 
 -- a list whose length is 0 is empty
 pub nothing : (rest : List ℕ) → (length rest == 0) ≡ true → rest ≡ []

@@ -1,33 +1,6 @@
 -- What holds of the open views of a viewer, turn by turn.
-use Rattle.std.proofs.Common.{◌≡◌, ◌≢◌, ◌⊎◌, inl, inr, ℕ, Bool, true, false, not, List, [], ◌∷◌, ◌++◌, filter, if◌then◌else◌, Result, Ok, Err, refl, sym, ap, subst, ◌∙◌}
-use mathlib.Core.List.{IsPrefix}
-use Rattle.std.specs.List.{AllByRecursion}
-use Rattle.std.specs.declared.alloc.AllocError.{AllocError}
-use Rattle.std.proofs.KnownBytes.{Appends-nil}
-use Rattle.std.proofs.lemmas.List.Elements.{Contains-append_left, Contains-push}
-use Rattle.mum_crew.specs.Turns.{TurnsTo}
-use Rattle.mum_crew.specs.declared.role.Turn.{Turn}
-use Rattle.std.proofs.lemmas.List.{append-nil}
-use Rattle.mum_io.specs.Counts.{Rose}
-use Rattle.mum_io.specs.Door.{DoorFacts}
-use Rattle.mum_io.specs.Link.{Appends, LinkFacts}
-use Rattle.mum_io.specs.declared.door.Accept.TheVariants.{Conn, NotYet, End, Failed}
-use Rattle.mum_io.specs.declared.door.Accept.{Accept}
-use Rattle.mum_published.proofs.Prefixes.{prefix_self, prefix_trans}
-use Rattle.mum_published.specs.Calls.{ask_at, looked, state_of}
-use Rattle.mum_published.specs.Facts.{PassFacts}
+use Rattle.mum_viewer.proofs.Common.{◌≡◌, ◌≢◌, ◌⊎◌, inl, inr, ℕ, Bool, true, false, not, List, [], ◌∷◌, ◌++◌, filter, if◌then◌else◌, Result, Ok, Err, refl, sym, ap, subst, ◌∙◌, IsPrefix, AllByRecursion, AllocError, Appends-nil, Contains-append_left, Contains-push, TurnsTo, Turn, append-nil, Rose, DoorFacts, Appends, LinkFacts, Conn, NotYet, End, Failed, Accept, prefix_self, prefix_trans, ask_at, looked, state_of, PassFacts, Along, IsOpenView, Looks, view_ask, view_text, EndWell, HasTurned, IsShown, IsWhole, OpenSteps, ViewFacts, ViewMoves, is_open, new_view, Asks, ViewerFacts, ViewerTurned, is_not_to_ask, Answers, StepsViews, Takes, ViewsFacts, Counted, Waits, Wrote, Finished, Broke, Went}
 use Rattle.mum_viewer.proofs.Shown.{open_on, text_not_empty}
-use Rattle.mum_crew.specs.Along.{Along}
-use Rattle.mum_viewer.specs.Laws.{IsOpenView}
-use Rattle.mum_viewer.specs.Look.{Looks, view_ask}
-use Rattle.mum_viewer.specs.Text.{view_text}
-use Rattle.mum_viewer.specs.Turns.{EndWell, HasTurned, IsShown, IsWhole}
-use Rattle.mum_viewer.specs.View.{OpenSteps, ViewFacts, ViewMoves, is_open, new_view}
-use Rattle.mum_viewer.specs.Viewer.{Asks, ViewerFacts, ViewerTurned, is_not_to_ask}
-use Rattle.mum_viewer.specs.Views.{Answers, StepsViews, Takes, ViewsFacts}
-use Rattle.mum_viewer.specs.declared.view.Counted.{Counted}
-use Rattle.mum_viewer.specs.declared.view.Went.TheVariants.{Waits, Wrote, Finished, Broke}
-use Rattle.mum_viewer.specs.declared.view.Went.{Went}
 
 -- ---- lists
 

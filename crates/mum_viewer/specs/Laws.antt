@@ -1,7 +1,6 @@
 -- What holds of a view over its steps, and of all views in a turn in which none did anything.
 use Rattle.std.specs.Prelude.{◌≡◌, ℕ, Bool, true, false, List, [], ◌∷◌, ◌++◌, ⊤}
-use Rattle.mum_io.specs.Counts.{Rose}
-use Rattle.mum_io.specs.Link.{Appends, LinkFacts}
+use Rattle.mum_io.specs.{Counts.Rose, Link.Appends, Link.LinkFacts}
 use Rattle.mum_viewer.specs.View.{ViewFacts, ViewSteps}
 use Rattle.mum_viewer.specs.declared.view.Went.{Went}
 use Rattle.mum_viewer.specs.declared.view.Went.TheVariants.{Waits, Wrote, Finished, Broke}

@@ -2,15 +2,11 @@
 use Rattle.std.specs.Prelude.{◌||◌, List, map, Option, Some, None, if◌then◌else◌}
 use Rattle.mum_base.specs.declared.number.ChannelId.{ChannelId}
 use Rattle.mum_tree.specs.declared.channel.Channel.{Channel}
-use Rattle.mum_tree.specs.Rows.{is_root}
-use Rattle.mum_tree.specs.State.{TreeState, partners}
+use Rattle.mum_tree.specs.{Rows.is_root, State.TreeState, State.partners}
 use Rattle.mum_users.specs.declared.user.User.{User}
-use Rattle.mum_users.specs.Listeners.{pairs_of}
-use Rattle.mum_users.specs.State.{RosterState}
+use Rattle.mum_users.specs.{Listeners.pairs_of, State.RosterState}
 use Rattle.mum_state.specs.State.{StateValue}
-use Rattle.mum_viewer.specs.declared.picture.Picture.{Picture}
-use Rattle.mum_viewer.specs.declared.picture.ShownChannel.{ShownChannel}
-use Rattle.mum_viewer.specs.declared.picture.ShownUser.{ShownUser}
+use Rattle.mum_viewer.specs.declared.picture.{Picture.Picture, ShownChannel.ShownChannel, ShownUser.ShownUser}
 
 -- the channel above this one; the root is under none
 abbrev pub shown_parent : Channel → Option ChannelId

@@ -2,15 +2,11 @@
 -- and a line feed.
 use Rattle.std.specs.Prelude.{ℕ, List, [], ◌∷◌, ◌++◌, map, codes, Option, Some, None}
 use Rattle.serde_json.specs.Data.{Data, null, boolean, number, string, array, object, unsigned, member, no_members}
-use Rattle.serde_json.specs.View.{items_of}
-use Rattle.serde_json.specs.Written.{compact_text}
-use Rattle.mum_base.specs.declared.number.AccountId.{AccountId}
-use Rattle.mum_base.specs.declared.number.ChannelId.{ChannelId}
+use Rattle.serde_json.specs.{View.items_of, Written.compact_text}
+use Rattle.mum_base.specs.declared.number.{AccountId.AccountId, ChannelId.ChannelId}
 use Rattle.mum_state.specs.State.{StateValue}
 use Rattle.mum_viewer.specs.Picture.{picture_of}
-use Rattle.mum_viewer.specs.declared.picture.Picture.{Picture}
-use Rattle.mum_viewer.specs.declared.picture.ShownChannel.{ShownChannel}
-use Rattle.mum_viewer.specs.declared.picture.ShownUser.{ShownUser}
+use Rattle.mum_viewer.specs.declared.picture.{Picture.Picture, ShownChannel.ShownChannel, ShownUser.ShownUser}
 
 -- a number that is not negative
 abbrev pub whole : ℕ → Data

@@ -1,24 +1,17 @@
 -- What came of the turns of a viewer.
-use Rattle.std.specs.Prelude.{◌≡◌, ◌≢◌, ◌⊎◌, ℕ, suc, ◌+◌, true, false, IsTrue, List, [], ◌∷◌, Contains, ⊤}
 use mathlib.Core.List.{IsPrefix}
-use Rattle.mum_crew.specs.Along.{Along}
-use Rattle.mum_crew.specs.Turns.{TurnsTo}
+use Rattle.std.specs.Prelude.{◌≡◌, ◌≢◌, ◌⊎◌, ℕ, suc, ◌+◌, true, false, IsTrue, List, [], ◌∷◌, Contains, ⊤}
+use Rattle.mum_io.specs.{Counts.Rose, Door.DoorFacts, Link.Appends, Link.LinkFacts}
+use Rattle.mum_crew.specs.{Along.Along, Turns.TurnsTo}
 use Rattle.mum_crew.specs.declared.role.Turn.{Turn}
-use Rattle.mum_doorway.specs.Doors.{HasStopped}
-use Rattle.mum_io.specs.Counts.{Rose}
-use Rattle.mum_io.specs.Door.{DoorFacts}
-use Rattle.mum_io.specs.Link.{Appends, LinkFacts}
-use Rattle.mum_published.specs.Calls.{ask_at, state_of}
-use Rattle.mum_published.specs.Facts.{PassFacts}
 use Rattle.mum_state.specs.declared.edit.Edit.{Edit}
-use Rattle.mum_viewer.specs.Laws.{AllStalled, HasSent}
-use Rattle.mum_viewer.specs.Look.{view_ask}
-use Rattle.mum_viewer.specs.Text.{view_text}
+use Rattle.mum_doorway.specs.Doors.{HasStopped}
+use Rattle.mum_published.specs.{Calls.ask_at, Calls.state_of, Facts.PassFacts}
+use Rattle.mum_viewer.specs.{Laws.AllStalled, Laws.HasSent, Look.view_ask, Text.view_text}
 use Rattle.mum_viewer.specs.View.{ViewFacts, ViewMoves}
 use Rattle.mum_viewer.specs.Viewer.{IsOpened, ViewerFacts, ViewerTurned, is_not_to_ask}
-use Rattle.mum_viewer.specs.declared.view.Counted.{Counted}
+use Rattle.mum_viewer.specs.declared.view.{Counted.Counted, Went.Went}
 use Rattle.mum_viewer.specs.declared.view.Went.TheVariants.{Waits, Wrote, Finished, Broke}
-use Rattle.mum_viewer.specs.declared.view.Went.{Went}
 
 -- ---- the open views
 
@@ -55,7 +48,8 @@ EndWell facts pass (old ∷ olds) (new ∷ news) =
 -- bytes went over its link, or it was shut
 abbrev pub HasMoved : {L : Type 0} → (L → LinkFacts) → ViewFacts L → ViewFacts L → Type 0
 HasMoved facts old new =
-    ((bytes : List ℕ) × Appends (facts old.link).written (facts new.link).written bytes × (bytes ≢ [])) ⊎ IsTrue (facts new.link).is_shut
+    ((bytes : List ℕ) × Appends (facts old.link).written (facts new.link).written bytes × (bytes ≢ []))
+    ⊎ IsTrue (facts new.link).is_shut
 
 abbrev pub SomeMoved : {L : Type 0} → (L → LinkFacts) → List (ViewFacts L) → List (ViewFacts L) → Type 0
 SomeMoved facts [] news = ⊥
@@ -66,12 +60,14 @@ module _ {D L : Type 0} (door_facts : D → DoorFacts) where
   -- the door gave a connection, ended or failed
   abbrev pub HasAnswered : ViewerFacts D L → ViewerFacts D L → Type 0
   HasAnswered old new =
-      (new.views.given ≡ old.views.given + 1) ⊎ HasStopped (door_facts old.doorway.door).counts (door_facts new.doorway.door).counts
+      (new.views.given ≡ old.views.given + 1)
+      ⊎ HasStopped (door_facts old.doorway.door).counts (door_facts new.doorway.door).counts
 
   -- each view found its link not ready; and so did the door, unless it is not to be asked
   pub record HasNothingToDo (facts : L → LinkFacts) (old new : ViewerFacts D L) : Type 0 where
     pub views : AllStalled facts old.views.list new.views.list
-    pub door : (is_not_to_ask new ≡ true) ⊎ Rose (door_facts old.doorway.door).counts.stalls (door_facts new.doorway.door).counts.stalls
+    pub door : (is_not_to_ask new ≡ true)
+        ⊎ Rose (door_facts old.doorway.door).counts.stalls (door_facts new.doorway.door).counts.stalls
 
 -- ---- the views that were written whole
 
@@ -84,7 +80,8 @@ finished_with Broke others = others
 
 module _ {L : Type 0} (facts : L → LinkFacts) where
   -- how many of these steps took the last of a text
-  abbrev pub finished_along : (olds : List (ViewFacts L)) (before : Counted) (news : List (ViewFacts L)) (after : Counted)
+  abbrev pub finished_along : (olds : List (ViewFacts L)) (before : Counted) (news : List (ViewFacts L))
+      (after : Counted)
       → Along (ViewMoves facts) olds before news after → ℕ
   finished_along [] before [] after none = 0
   finished_along [] before (new ∷ news) after none = 0

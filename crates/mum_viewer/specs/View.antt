@@ -2,9 +2,8 @@
 use Rattle.std.specs.Prelude.{◌≡◌, ◌≢◌, Bool, true, false, not, List, [], ◌++◌, IsTrue, ℕ}
 use Rattle.mum_io.specs.Counts.{CountsFault, CountsStall, next_count}
 use Rattle.mum_io.specs.Link.{Appends, Keeps, LinkFacts}
-use Rattle.mum_viewer.specs.declared.view.Went.{Went}
+use Rattle.mum_viewer.specs.declared.view.{Went.Went, Counted.Counted}
 use Rattle.mum_viewer.specs.declared.view.Went.TheVariants.{Waits, Wrote, Finished, Broke}
-use Rattle.mum_viewer.specs.declared.view.Counted.{Counted}
 
 -- its link, the bytes of its text that are left to be written, and whether its link was shut
 pub record ViewFacts (L : Type 0) : Type 0 where

@@ -1,17 +1,15 @@
 -- The viewer, and a turn of it.
 use Rattle.std.specs.Prelude.{◌≡◌, ℕ, ◌<◌, ◌≤◌, ◌^◌, ◌==◌, ◌||◌, ◌&&◌, nat_le, Bool, true, false, length}
+use Rattle.mum_io.specs.{Door.AcceptCounts, Door.DoorFacts, Door.given_after, Link.LinkFacts}
+use Rattle.mum_io.specs.declared.door.Accept.{Accept}
 use Rattle.mum_crew.specs.declared.role.Turn.{Turn}
-use Rattle.mum_crew.specs.declared.role.Turn.TheVariants as turns
 use Rattle.mum_doorway.specs.Asking.{DoorwayFacts, failed_by, new_doorway, stopped_by}
 use Rattle.mum_doorway.specs.Doors.{given_after_all}
 use Rattle.mum_doorway.specs.declared.opening.DoorOpening.{DoorOpening}
-use Rattle.mum_io.specs.Door.{AcceptCounts, DoorFacts, given_after}
-use Rattle.mum_io.specs.Link.{LinkFacts}
-use Rattle.mum_io.specs.declared.door.Accept.{Accept}
 use Rattle.mum_published.specs.Facts.{Opening, PassFacts}
 use Rattle.mum_viewer.specs.Views.{Answers, StepsViews, ViewsFacts, no_views}
-use Rattle.mum_viewer.specs.declared.list.TheConstants.{VIEWS_OPEN}
-use Rattle.mum_viewer.specs.declared.viewer.ViewerOpening.{ViewerOpening}
+use Rattle.mum_viewer.specs.declared.{list.TheConstants.VIEWS_OPEN, viewer.ViewerOpening.ViewerOpening}
+use Rattle.mum_crew.specs.declared.role.Turn.TheVariants as turns
 
 -- its door, the views, and how many there may be in all
 pub record ViewerFacts (D L : Type 0) : Type 0 where

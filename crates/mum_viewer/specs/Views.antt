@@ -2,15 +2,14 @@
 use Rattle.std.specs.Prelude.{◌≡◌, ◌+◌, ◌≤◌, ℕ, Bool, true, false, List, [], ◌∷◌, ◌++◌, length, IsTrue, Result, Ok, Err}
 use Rattle.std.specs.List.{AllByRecursion}
 use Rattle.std.specs.declared.alloc.AllocError.{AllocError}
-use Rattle.mum_crew.specs.Along.{EachAlong}
 use Rattle.mum_io.specs.Link.{Keeps, LinkFacts}
 use Rattle.mum_io.specs.declared.door.Accept.{Accept}
-use Rattle.mum_io.specs.declared.door.Accept.TheVariants as accepted
+use Rattle.mum_crew.specs.Along.{EachAlong}
 use Rattle.mum_published.specs.Facts.{PassFacts}
-use Rattle.mum_viewer.specs.Look.{IsViewAsk, Looks}
-use Rattle.mum_viewer.specs.Text.{view_text}
+use Rattle.mum_viewer.specs.{Look.IsViewAsk, Look.Looks, Text.view_text}
 use Rattle.mum_viewer.specs.View.{ViewFacts, ViewMoves, is_open, new_view}
 use Rattle.mum_viewer.specs.declared.list.TheConstants.{VIEWS_OPEN}
+use Rattle.mum_io.specs.declared.door.Accept.TheVariants as accepted
 
 pub record ViewsFacts (L : Type 0) : Type 0 where
   pub pass : PassFacts

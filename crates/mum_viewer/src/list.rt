@@ -15,12 +15,12 @@ use std::marker::Model;
 /// How many views are open at most.
 pub const VIEWS_OPEN: usize = 16;
 
-/// The number for which the name of the limit stands. This does nothing: its contract is what it is.
+/// The number that the name of the limit stands for. This does nothing: its contract is what it is.
 pub fn limits()
     ensures open { VIEWS_OPEN ≡ 16 }
 {}
 
-/// The open views, in the order in which they came, with room for as many as may be open.
+// The open views, in the order in which they came, with room for as many as may be open.
 #[derive(Drop)]
 pub(crate) struct OpenViews<L: Link> {
     list: VecDeque<View<L>>,
@@ -92,7 +92,7 @@ impl<L: Link> OpenViews<L> {
         self.list.len()
     }
 
-    /// One more. There is room for it.
+    // One more. There is room for it.
     pub(crate) fn push(&mut self, link: L, text: Octets)
         requires { length self.old < VIEWS_OPEN }
         ensures { self.new ≡ self.old ++ new_view link text ∷ [] }
@@ -100,7 +100,7 @@ impl<L: Link> OpenViews<L> {
         self.list.push_back_reserved(View::new(link, text));
     }
 
-    /// Each makes its step, in their order. Those that are over then are let go.
+    // Each makes its step, in their order. Those that are over then are let go.
     pub(crate) fn step(&mut self, before: Counted) -> Counted
         ensures steps { EachAlong (ViewMoves L.facts) is_open
             self.old before self.new result }

@@ -16,8 +16,8 @@ use std::marker::Model;
 use std::mem::drop;
 use std::sync::Wait;
 
-/// A pass that looks for views. It keeps the text of its last look, so that the text is not made again
-/// where no edit came since.
+// A pass that looks for views. It keeps the text of its last look, so that the text is not made again
+// where no edit came since.
 #[derive(Drop)]
 pub(crate) struct Looker {
     pass: Pass,
@@ -123,14 +123,14 @@ impl Looker {
         Looker { pass, kept: None }
     }
 
-    /// The pass that looks.
+    // The pass that looks.
     pub(crate) fn pass(&self) -> &Pass
         ensures { result.now ≡ self.now }
     {
         &self.pass
     }
 
-    /// One look, and the text of the state that it found.
+    // One look, and the text of the state that it found.
     pub(crate) fn text<R: Wait>(&mut self, rt: &R, alloc: Global) -> Result<Octets, OutOfMemory>
         ensures { Looks view_text self.old result self.new }
     {

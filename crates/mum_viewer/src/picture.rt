@@ -13,7 +13,7 @@ use mum_tree::{Channel, Tree};
 use mum_users::{ListenerPair, Roster, User};
 use std::alloc::Global;
 
-/// What a view shows of a channel.
+// What a view shows of a channel.
 #[derive(Drop)]
 pub(crate) struct ShownChannel {
     pub id: ChannelId,
@@ -25,7 +25,7 @@ pub(crate) struct ShownChannel {
     pub temporary: bool,
 }
 
-/// What a view shows of a user.
+// What a view shows of a user.
 #[derive(Drop)]
 pub(crate) struct ShownUser {
     pub account: Option<AccountId>,
@@ -40,7 +40,7 @@ pub(crate) struct ShownUser {
     pub session: SessionId,
 }
 
-/// What a view shows of a state.
+// What a view shows of a state.
 #[derive(Drop)]
 pub(crate) struct Picture {
     /// In order of number.
@@ -146,7 +146,7 @@ fn shown_users(
 }
 
 impl Picture {
-    /// What a view shows of this state. Its texts are not copied.
+    // What a view shows of this state. Its texts are not copied.
     pub(crate) fn of(alloc: Global, state: &State) -> Result<Picture, OutOfMemory>
         ensures { IfOk result (λ picture. picture ≡ picture_of state.now) }
     {

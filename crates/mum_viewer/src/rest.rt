@@ -5,7 +5,7 @@ ghost use Rattle.std.specs.Prelude.{◌≡◌, ◌≤◌, ◌==◌, drop, length
 use mum_base::Octets;
 use std::marker::Model;
 
-/// A text, and how many of its bytes are left, the last ones. Contracts see these bytes.
+// A text, and how many of its bytes are left, the last ones. Contracts see these bytes.
 #[derive(Drop)]
 pub(crate) struct Rest {
     text: Octets,
@@ -23,7 +23,7 @@ impl Model for Rest {
 }
 
 impl Rest {
-    /// The whole text is left.
+    // The whole text is left.
     pub(crate) fn of(text: Octets) -> Rest
         ensures { result ≡ text }
     {
@@ -44,7 +44,7 @@ impl Rest {
         self.as_slice().is_empty()
     }
 
-    /// The first bytes that were left are written.
+    // The first bytes that were left are written.
     pub(crate) fn advance(&mut self, count: usize)
         requires { count ≤ length self.old }
         ensures { self.new ≡ drop count self.old }

@@ -108,7 +108,7 @@ fn object_text(alloc: Global, picture: &Picture) -> Result<Vec<u8>, OutOfMemory>
 }
 
 impl Picture {
-    /// The picture as one JSON object without white space, and a line feed.
+    // The picture as one JSON object without white space, and a line feed.
     pub(crate) fn text(&self, alloc: Global) -> Result<Octets, OutOfMemory>
         ensures { IfOk result (λ text. text ≡ picture_text self.now) }
     {

@@ -29,7 +29,7 @@ pub struct Counted {
     pub worked: bool,
 }
 
-/// A connection, and the text that it gets.
+// A connection, and the text that it gets.
 #[derive(Drop)]
 pub(crate) struct View<L: Link> {
     link: L,
@@ -63,7 +63,7 @@ fn counted_by(went: Went, before: Counted) -> Counted
 }
 
 impl<L: Link> View<L> {
-    /// Nothing was written yet.
+    // Nothing was written yet.
     pub(crate) fn new(link: L, text: Octets) -> View<L>
         ensures { result ≡ new_view link text }
     {
@@ -74,7 +74,7 @@ impl<L: Link> View<L> {
         }
     }
 
-    /// Whether its link was not shut.
+    // Whether its link was not shut.
     pub(crate) fn is_open(&self) -> bool
         ensures { result ≡ is_open self.now }
     {
@@ -121,7 +121,7 @@ impl<L: Link> View<L> {
         self.write()
     }
 
-    /// Makes a step, and counts it.
+    // Makes a step, and counts it.
     pub(crate) fn go(&mut self, before: Counted) -> Counted
         ensures { ViewMoves L.facts self.old before self.new result }
     {

@@ -17,7 +17,7 @@ use std::marker::Model;
 use std::mem::drop;
 use std::sync::Wait;
 
-/// The open views, what is counted of them, and the pass that looks for them.
+// The open views, what is counted of them, and the pass that looks for them.
 #[derive(Drop)]
 pub(crate) struct Views<L: Link> {
     pass: Looker,
@@ -55,7 +55,7 @@ fn turn_away<L: Link>(link: L) -> L
 }
 
 impl<L: Link> Views<L> {
-    /// No view yet.
+    // No view yet.
     pub(crate) fn open(alloc: Global, pass: Pass) -> Result<Views<L>, OutOfMemory>
         requires { pass.asks ≡ [] }
         ensures { IfOk result (λ views. views ≡ no_views pass) }
@@ -76,28 +76,28 @@ impl<L: Link> Views<L> {
         })
     }
 
-    /// The pass that looks for them.
+    // The pass that looks for them.
     pub(crate) fn pass(&self) -> &Pass
         ensures { result.now ≡ self.now.pass }
     {
         self.pass.pass()
     }
 
-    /// How many there were.
+    // How many there were.
     pub(crate) fn given(&self) -> u32
         ensures { result ≡ self.now.given }
     {
         self.given
     }
 
-    /// How many are open.
+    // How many are open.
     pub(crate) fn len(&self) -> usize
         ensures { result ≡ length self.now.list }
     {
         self.list.len()
     }
 
-    /// Each open view makes its step. Answers whether one did anything.
+    // Each open view makes its step. Answers whether one did anything.
     pub(crate) fn step(&mut self) -> bool
         ensures { StepsViews L.facts self.old result self.new }
     {
@@ -125,7 +125,7 @@ impl<L: Link> Views<L> {
         }
     }
 
-    /// Takes the door's answer. Answers whether it was a connection, an end or a fault.
+    // Takes the door's answer. Answers whether it was a connection, an end or a fault.
     pub(crate) fn take<R: Wait>(&mut self, rt: &R, alloc: Global, answer: Accept<L>) -> bool
         requires few { length self.old.list < VIEWS_OPEN }
         requires fits { self.old.given + 1 < 2 ^ 32 }
@@ -142,7 +142,7 @@ impl<L: Link> Views<L> {
         }
     }
 
-    /// How many texts were taken whole, and whether a view found no memory.
+    // How many texts were taken whole, and whether a view found no memory.
     pub(crate) fn close(self) -> (u64, bool)
         ensures whole { result.0 ≡ self.whole }
         ensures no_memory { result.1 ≡ self.no_memory }

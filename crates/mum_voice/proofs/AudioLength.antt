@@ -1,16 +1,10 @@
 -- How much audio begins the bytes, as a function and by the rules.
-use Rattle.std.proofs.Common.{◌≡◌, ℕ, zero, suc, ◌+◌, ◌-◌, ◌%◌, ◌^◌, ◌<◌, ◌≤◌, true, false, List, [], ◌∷◌, ◌++◌, length, get_or, take, drop, Option, Some, None, refl, sym, ap, subst, ◌∙◌, append_assoc, arith, inl, inr, lit≤}
-use Rattle.std.specs.Option.{option_map}
-use Rattle.std.proofs.lemmas.Bool.{cases_lt, le-ltb, lt-ltb, ne_eqb}
-use Rattle.std.proofs.lemmas.List.{drop_at, length-append, length-take, length-drop, drop-drop}
-use Rattle.std.proofs.Math.Seq.{drop-cons, take-add}
-use Rattle.mum_voice.specs.Varint.{BeginsWith, word_at}
-use Rattle.mum_voice.specs.Packet.{IsOpus, AreSegments, IsAudio, is_audio_kind, opus_len_by, opus_len, segments_len_within, segments_len, audio_len}
+use Rattle.mum_voice.proofs.Common.{◌≡◌, ℕ, zero, suc, ◌+◌, ◌-◌, ◌%◌, ◌^◌, ◌<◌, ◌≤◌, true, false, List, [], ◌∷◌, ◌++◌, length, get_or, take, drop, Option, Some, None, refl, sym, ap, subst, ◌∙◌, append_assoc, arith, inl, inr, lit≤, option_map, cases_lt, le-ltb, lt-ltb, ne_eqb, drop_at, length-append, length-take, length-drop, drop-drop, drop-cons, take-add, BeginsWith, word_at, IsOpus, AreSegments, IsAudio, is_audio_kind, opus_len_by, opus_len, segments_len_within, segments_len, audio_len}
 use Rattle.mum_voice.proofs.Spelling.{IsBytes, IsBytes-rest, IsBytes-drop, word_at-spelled, word_at-found}
 
 -- ---- segments
 
--- a length behind so many bytes
+-- a length after n bytes
 abbrev pub after : ℕ → Option ℕ → Option ℕ
 after len rest = option_map (λ more. len + more) rest
 

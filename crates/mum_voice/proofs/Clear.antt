@@ -1,13 +1,8 @@
--- The shortest spelling is the only one of its length whose ignored bits are 0.
-use Rattle.std.proofs.Common.{◌≡◌, ℕ, zero, suc, ◌+◌, ◌*◌, ◌^◌, ◌<◌, ◌≤◌, List, [], ◌∷◌, length, drop, get_or, refl, sym, ap, ◌∙◌, arith, inl, inr}
-use Rattle.std.specs.Int.{w16, w32, w64, to_be_bytes}
-use Rattle.std.proofs.lemmas.Bool.{cases_lt}
-use Rattle.std.proofs.lemmas.Nat.{be_bytes_8}
-use Rattle.mum_voice.specs.Varint.{AreSoManyBytes, IsClear, IsClearNumber, big_endian, inverse, SpellsNumber, SpellsWord, shortest_number, shortest_word}
-use Rattle.mum_voice.proofs.Spelling.{AreSoManyBytes-length}
-use Rattle.mum_voice.proofs.Shortest.{shortest_7, shortest_14, shortest_21, shortest_28, shortest_32, shortest_64, shortest_small, shortest_inverted, shortest_positive, len_7, len_14, len_21, len_28, len_32, two_bytes, three_bytes, four_bytes, length-shortest_word, shortest_number-spelled, big_endian_1, big_endian_2, big_endian_3, big_endian_4, tells}
+-- The shortest encoding is the only one of its length whose ignored bits are 0.
+use Rattle.mum_voice.proofs.Common.{◌≡◌, ℕ, zero, suc, ◌+◌, ◌*◌, ◌^◌, ◌<◌, ◌≤◌, List, [], ◌∷◌, length, drop, get_or, refl, sym, ap, ◌∙◌, arith, inl, inr, w16, w32, w64, to_be_bytes, cases_lt, be_bytes_8, AreSoManyBytes, IsClear, IsClearNumber, big_endian, inverse, SpellsNumber, SpellsWord, shortest_number, shortest_word}
+use Rattle.mum_voice.proofs.{Spelling.AreSoManyBytes-length, Shortest.shortest_7, Shortest.shortest_14, Shortest.shortest_21, Shortest.shortest_28, Shortest.shortest_32, Shortest.shortest_64, Shortest.shortest_small, Shortest.shortest_inverted, Shortest.shortest_positive, Shortest.len_7, Shortest.len_14, Shortest.len_21, Shortest.len_28, Shortest.len_32, Shortest.two_bytes, Shortest.three_bytes, Shortest.four_bytes, Shortest.length-shortest_word, Shortest.shortest_number-spelled, Shortest.big_endian_1, Shortest.big_endian_2, Shortest.big_endian_3, Shortest.big_endian_4, Shortest.tells}
 
--- ---- the shortest spelling is clear
+-- ---- the shortest encoding is clear
 
 clear_number : (n : ℕ) → IsClearNumber (shortest_number n)
 clear_number n =

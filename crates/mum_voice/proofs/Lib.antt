@@ -1,3 +1,5 @@
+mod Common
+pub mod Public
 pub mod Rows
 pub mod Spelling
 pub mod Shortest

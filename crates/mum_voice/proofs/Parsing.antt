@@ -1,15 +1,6 @@
 -- A packet's parts and its first fault, as a function and by the rules.
-use Rattle.std.proofs.Common.{◌≡◌, ℕ, ◌+◌, ◌*◌, ◌/◌, ◌%◌, ◌^◌, ◌<◌, ◌≤◌, Bool, true, false, List, [], ◌∷◌, ◌++◌, length, take, drop, Option, Some, None, Result, Ok, Err, refl, sym, ap, subst, ◌∙◌, append_assoc, arith, inl, inr}
-use Rattle.std.specs.Prelude.{IfOk, IsNone}
-use Rattle.std.proofs.lemmas.Bool.{cases_lt, le-ltb, lt-ltb}
-use Rattle.std.proofs.lemmas.List.{take_at, drop_at, take-append-drop}
-use Rattle.mum_voice.specs.declared.fault.BadVoice.{BadVoice}
-use Rattle.mum_voice.specs.declared.packet.Packet.{Packet}
-use Rattle.mum_voice.specs.Varint.{BeginsWith, BeginsWithNone, word_at}
-use Rattle.mum_voice.specs.declared.packet.TheConstants.{PACKET_LIMIT}
-use Rattle.mum_voice.specs.Packet.{Parts, plain_parts, parsed, IsAudio, IsPacket, client_bytes, bad_length, bad_type, bad_varint, bad_audio, is_audio_kind, IsHeader, HasNoAudio, HasVoiceFault, audio_len, packet_by_audio, packet_by_sequence, packet}
-use Rattle.mum_voice.proofs.Spelling.{IsBytes, IsBytes-rest, IsBytes-drop, word_at-spelled, word_at-found, word_at-begins, begins_none, none_begins}
-use Rattle.mum_voice.proofs.AudioLength.{audio_len-spelled, audio_len-found, kind-known}
+use Rattle.mum_voice.proofs.Common.{◌≡◌, ℕ, ◌+◌, ◌*◌, ◌/◌, ◌%◌, ◌^◌, ◌<◌, ◌≤◌, Bool, true, false, List, [], ◌∷◌, ◌++◌, length, take, drop, Option, Some, None, Result, Ok, Err, refl, sym, ap, subst, ◌∙◌, append_assoc, arith, inl, inr, IfOk, IsNone, cases_lt, le-ltb, lt-ltb, take_at, drop_at, take-append-drop, BadVoice, Packet, BeginsWith, BeginsWithNone, word_at, PACKET_LIMIT, Parts, plain_parts, parsed, IsAudio, IsPacket, client_bytes, bad_length, bad_type, bad_varint, bad_audio, is_audio_kind, IsHeader, HasNoAudio, HasVoiceFault, audio_len, packet_by_audio, packet_by_sequence, packet}
+use Rattle.mum_voice.proofs.{Spelling.IsBytes, Spelling.IsBytes-rest, Spelling.IsBytes-drop, Spelling.word_at-spelled, Spelling.word_at-found, Spelling.word_at-begins, Spelling.begins_none, Spelling.none_begins, AudioLength.audio_len-spelled, AudioLength.audio_len-found, AudioLength.kind-known}
 
 -- ---- the first tests
 
@@ -33,7 +24,7 @@ ok_is p q h = cc
 
 -- ---- what the grammar has is read
 
--- the parts that stand so in the bytes
+-- the parts that are so in the bytes
 made : ℕ → ℕ → List ℕ → List ℕ → List ℕ → Parts
 made kind target sequence audio position = record { kind = kind; target = target; sequence = sequence; audio = audio; position = position }
 

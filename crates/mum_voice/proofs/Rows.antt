@@ -1,7 +1,5 @@
 -- The row of the table that the first byte names.
-use Rattle.std.proofs.Common.{◌≡◌, ℕ, ◌+◌, ◌-◌, ◌*◌, ◌^◌, ◌<◌, ◌≤◌, List, ◌∷◌, length, get_or, Some, None, refl, ap, arith}
-use Rattle.std.proofs.lemmas.Bool.{le-ltb, lt-ltb}
-use Rattle.mum_voice.specs.Varint.{row_number, number_by}
+use Rattle.mum_voice.proofs.Common.{◌≡◌, ℕ, ◌+◌, ◌-◌, ◌*◌, ◌^◌, ◌<◌, ◌≤◌, List, ◌∷◌, length, get_or, Some, None, refl, ap, arith, le-ltb, lt-ltb, row_number, number_by}
 
 pub row_7 : (first : ℕ) (bytes : List ℕ) → first < 0x80 → number_by first bytes ≡ row_number first 0 bytes
 row_7 first bytes lt = rw (lt-ltb first 0x80 lt) refl

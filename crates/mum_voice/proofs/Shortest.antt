@@ -1,9 +1,5 @@
--- The shortest spelling is a spelling, and none is shorter.
-use Rattle.std.proofs.Common.{◌≡◌, ℕ, ◌+◌, ◌*◌, ◌/◌, ◌%◌, ◌^◌, ◌<◌, ◌≤◌, List, [], ◌∷◌, ◌++◌, length, drop, Some, refl, subst, arith, inl, inr}
-use Rattle.std.specs.Int.{w16, w32, w64, to_be_bytes}
-use Rattle.std.proofs.lemmas.Bool.{cases_lt, le-ltb, lt-ltb}
-use Rattle.std.proofs.lemmas.Nat.{from_be_bytes-to_be_bytes_4, from_be_bytes-to_be_bytes_8}
-use Rattle.mum_voice.specs.Varint.{AreSoManyBytes, big_endian, inverse, SpellsNumber, SpellsWord, word_at, shortest_number, shortest_word}
+-- The shortest encoding is an encoding, and none is shorter.
+use Rattle.mum_voice.proofs.Common.{◌≡◌, ℕ, ◌+◌, ◌*◌, ◌/◌, ◌%◌, ◌^◌, ◌<◌, ◌≤◌, List, [], ◌∷◌, ◌++◌, length, drop, Some, refl, subst, arith, inl, inr, w16, w32, w64, to_be_bytes, cases_lt, le-ltb, lt-ltb, from_be_bytes-to_be_bytes_4, from_be_bytes-to_be_bytes_8, AreSoManyBytes, big_endian, inverse, SpellsNumber, SpellsWord, word_at, shortest_number, shortest_word}
 use Rattle.mum_voice.proofs.Spelling.{AreSoManyBytes-length, word_at-spelled}
 
 -- ---- the row of a number
@@ -32,7 +28,7 @@ pub shortest_64 : (n : ℕ) → 2 ^ 32 ≤ n → shortest_number n ≡ 0xF4 ∷ 
 unfolding shortest_number
 shortest_64 n le = rw (le-ltb n (2 ^ 7) (omega arith), le-ltb n (2 ^ 14) (omega arith), le-ltb n (2 ^ 21) (omega arith), le-ltb n (2 ^ 28) (omega arith), le-ltb n (2 ^ 32) le) refl
 
--- ---- each is a spelling
+-- ---- each is an encoding
 
 spelled_as : (bytes bytes' : List ℕ) (n n' : ℕ) → SpellsNumber bytes n → bytes ≡ bytes' → n ≡ n' → SpellsNumber bytes' n'
 spelled_as bytes bytes' n n' s e f = subst (λ (m : ℕ). SpellsNumber bytes' m) f (subst (λ (b : List ℕ). SpellsNumber b n) e s)
@@ -138,7 +134,7 @@ len_64 n =
       | inr le ↦ rw (shortest_64 n le) (omega arith)
     ]
 
--- ---- no spelling is shorter
+-- ---- no encoding is shorter
 
 pub big_endian_1 : (bytes : List ℕ) → AreSoManyBytes 1 bytes → big_endian bytes < 2 ^ 8
 big_endian_1 (a ∷ []) are = omega (arith, are.0)
@@ -160,7 +156,7 @@ big_endian_8 : (bytes : List ℕ) → AreSoManyBytes 8 bytes → big_endian byte
 big_endian_8 (a ∷ b ∷ c ∷ d ∷ e ∷ f ∷ g ∷ h ∷ []) are = omega (arith, are.0, are.1.0, are.1.1.0, are.1.1.1.0, are.1.1.1.1.0, are.1.1.1.1.1.0, are.1.1.1.1.1.1.0, are.1.1.1.1.1.1.1.0)
 big_endian_8 bytes are = absurd (omega (arith, AreSoManyBytes-length 8 bytes are))
 
--- what a spelling of a positive number tells of it
+-- what an encoding of a positive number says of it
 pub record Tells (bytes : List ℕ) (n : ℕ) : Type 0 where
   pub word : n < 2 ^ 64
   pub least : length (shortest_number n) ≤ length bytes

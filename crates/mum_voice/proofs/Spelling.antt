@@ -1,11 +1,6 @@
 -- Reading a word as a function is reading it by the rules.
-use Rattle.std.proofs.Common.{◌≡◌, ℕ, zero, suc, ◌+◌, ◌-◌, ◌*◌, ◌^◌, ◌<◌, ◌≤◌, false, ltb, List, [], ◌∷◌, ◌++◌, length, get_or, take, drop, Option, Some, None, refl, sym, ap, subst, ◌∙◌, arith, inl, inr}
-use Rattle.std.specs.Prelude.{◌↔◌, IsNone}
-use Rattle.std.specs.Option.{option_map}
-use Rattle.std.proofs.lemmas.Bool.{cases_lt, le-ltb, lt-ltb}
-use Rattle.std.proofs.lemmas.List.{take_at, take-append-drop, length-append, length-take, get_or-drop}
+use Rattle.mum_voice.proofs.Common.{◌≡◌, ℕ, zero, suc, ◌+◌, ◌-◌, ◌*◌, ◌^◌, ◌<◌, ◌≤◌, false, ltb, List, [], ◌∷◌, ◌++◌, length, get_or, take, drop, Option, Some, None, refl, sym, ap, subst, ◌∙◌, arith, inl, inr, ◌↔◌, IsNone, option_map, cases_lt, le-ltb, lt-ltb, take_at, take-append-drop, length-append, length-take, get_or-drop, AreSoManyBytes, big_endian, inverse, SpellsNumber, SpellsWord, BeginsWith, BeginsWithNone, row_number, number_by, number_at, word_at}
 use Rattle.mum_voice.proofs.Rows.{row_7, row_14, row_21, row_28, row_32, row_64, no_row}
-use Rattle.mum_voice.specs.Varint.{AreSoManyBytes, big_endian, inverse, SpellsNumber, SpellsWord, BeginsWith, BeginsWithNone, row_number, number_by, number_at, word_at}
 
 -- each element is a byte
 abbrev pub IsBytes : List ℕ → Type 0
@@ -28,7 +23,7 @@ AreSoManyBytes-take zero bytes fits le = tt
 AreSoManyBytes-take (suc count) [] fits le = absurd (omega arith)
 AreSoManyBytes-take (suc count) (b ∷ bytes) fits le = (fits 0, AreSoManyBytes-take count bytes (IsBytes-rest b bytes fits) (omega arith))
 
--- ---- what is spelled is read, whatever follows
+-- ---- what is encoded is read, whatever follows
 
 row_number-spelled : (high count : ℕ) (more rest : List ℕ) (n : ℕ) → AreSoManyBytes count more → n ≡ high * 2 ^ (8 * count) + big_endian more → row_number high count (more ++ rest) ≡ Some (n, suc (length more))
 row_number-spelled high count more rest n are e =
@@ -91,7 +86,7 @@ word_at-spelled (SpellsWord.inverted x bytes n lt s) rest =
     inverted_row x (bytes ++ rest) n (length bytes) lt (number_at-spelled s rest) ∙ (let k : length bytes + 1 ≡ suc (length bytes) = omega arith in rw k refl)
 word_at-spelled (SpellsWord.inverted_small n lt) rest = small_row n rest
 
--- ---- what is read is spelled
+-- ---- what is read is encoded
 
 same_found : (p q : ℕ × ℕ) → Some p ≡ Some q → p ≡ q
 same_found p q e = cc

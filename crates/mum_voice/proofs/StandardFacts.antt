@@ -1,16 +1,10 @@
 -- Worked spellings and packets, after the sections "Variable length integer encoding" and "Voice data" of the Mumble
 -- protocol documentation, so that a wrong rule in the specs does not check.
-use Prim.Native.String.{String}
-use Rattle.std.proofs.Common.{◌≡◌, ℕ, ◌+◌, ◌-◌, ◌^◌, Bool, true, false, List, [], ◌++◌, length, replicate, Some, None, Result, Ok, Err}
-use Rattle.mum_base.proofs.Hex.{hex}
-use Rattle.mum_voice.specs.declared.fault.BadVoice.{BadVoice}
-use Rattle.mum_voice.specs.declared.audio.TheConstants.{CELT_ALPHA, SPEEX, CELT_BETA, OPUS}
-use Rattle.mum_voice.specs.Varint.{inverse, number_at, word_at, shortest_number, shortest_word}
-use Rattle.mum_voice.specs.Packet.{Parts, opus_len, segments_len_within, segments_len, audio_len, packet, copy, bad_length, bad_type, bad_varint, bad_audio}
+use Rattle.mum_voice.proofs.Common.{String, ◌≡◌, ℕ, ◌+◌, ◌-◌, ◌^◌, Bool, true, false, List, [], ◌++◌, length, replicate, Some, None, Result, Ok, Err, hex, BadVoice, CELT_ALPHA, SPEEX, CELT_BETA, OPUS, inverse, number_at, word_at, shortest_number, shortest_word, Parts, opus_len, segments_len_within, segments_len, audio_len, packet, copy, bad_length, bad_type, bad_varint, bad_audio}
 
--- ---- varints: they spell 64-bit words, and the inverse of 4 is -5
+-- ---- varints: they encode 64-bit words, and the inverse of 4 is -5
 
--- these bytes are the shortest spelling of the word, and are read again as the word
+-- these bytes are the shortest encoding of the word, and are read again as the word
 abbrev IsShortest : ℕ → List ℕ → Type 0
 IsShortest word bytes = (shortest_word word ≡ bytes) × (word_at bytes ≡ Some (word, length bytes))
 

@@ -1,9 +1,7 @@
 -- Voice packets: the section "Voice data" of the Mumble protocol documentation.
 use Rattle.std.specs.Prelude.{ℕ, zero, suc, ◌≡◌, ◌+◌, ◌*◌, ◌/◌, ◌%◌, ◌^◌, ◌<◌, ◌≤◌, ◌==◌, ◌||◌, Bool, List, [], ◌∷◌, ◌++◌, length, take, drop, Option, Some, None, Result, Ok, Err, nat_lt, IsTrue, false, if◌then◌else◌}
 use Rattle.std.specs.Option.{option_map}
-use Rattle.mum_voice.specs.declared.fault.BadVoice.{BadVoice}
-use Rattle.mum_voice.specs.declared.packet.Packet.{Packet}
-use Rattle.mum_voice.specs.declared.packet.TheConstants.{PACKET_LIMIT}
+use Rattle.mum_voice.specs.declared.{fault.BadVoice.BadVoice, packet.Packet.Packet, packet.TheConstants.PACKET_LIMIT}
 use Rattle.mum_voice.specs.declared.audio.TheConstants.{CELT_ALPHA, SPEEX, CELT_BETA, OPUS}
 use Rattle.mum_voice.specs.Varint.{SpellsWord, BeginsWith, BeginsWithNone, word_at, shortest_word}
 
@@ -73,7 +71,7 @@ bad_audio = record { code = 23 }
 abbrev pub is_audio_kind : ℕ → Bool
 is_audio_kind kind = (kind == CELT_ALPHA) || (kind == SPEEX) || (kind == CELT_BETA) || (kind == OPUS)
 
--- a header that no fault of length or kind stands before
+-- a header that no fault of length or kind comes before
 pub record IsHeader (header : ℕ) (bytes : List ℕ) : Type 0 where
   pub fits : length bytes + 1 ≤ PACKET_LIMIT
   pub known : IsTrue (is_audio_kind (header / 2 ^ 5))
@@ -151,4 +149,5 @@ parsed (Err fault) = Err fault
 -- the kind and the context, the sender's session, and the parts as they came
 abbrev pub copy : Parts → ℕ → ℕ → Bool → List ℕ
 copy p session context with_position =
-    (p.kind * 2 ^ 5 + context) ∷ shortest_word session ++ p.sequence ++ p.audio ++ (if with_position then p.position else [])
+    (p.kind * 2 ^ 5 + context) ∷ shortest_word session ++ p.sequence ++ p.audio
+    ++ (if with_position then p.position else [])

@@ -1,4 +1,4 @@
--- Which bytes spell which 64-bit word: the section "Variable length integer encoding" of the Mumble
+-- Which bytes encode which 64-bit word: the section "Variable length integer encoding" of the Mumble
 -- protocol documentation, a rule for each row of its table.
 use Rattle.std.specs.Prelude.{ℕ, ◌≡◌, ◌%◌, zero, suc, ◌+◌, ◌-◌, ◌*◌, ◌^◌, ◌<◌, ◌≤◌, List, [], ◌∷◌, length, take, drop, Option, Some, None, nat_lt, if◌then◌else◌}
 use Rattle.std.specs.Option.{option_map}
@@ -49,29 +49,29 @@ pub data SpellsWord : List ℕ → ℕ → Type 0 where
   -- 111111nn
   inverted_small : (n : ℕ) → n < 2 ^ 2 → SpellsWord ((0xFC + n) ∷ []) (inverse n)
 
--- the bits that a reader ignores in the spelling of a positive number are 0
+-- the bits that a reader ignores in the encoding of a positive number are 0
 abbrev pub IsClearNumber : List ℕ → Type 0
 IsClearNumber [] = Unit {0}
 IsClearNumber (first ∷ bytes) = 0xF0 ≤ first → first % 2 ^ 2 ≡ 0
 
--- the same of any spelling: its own ignored bits, and those of the number that it inverts
+-- the same of any encoding: its own ignored bits, and those of the number that it inverts
 abbrev pub IsClear : List ℕ → Type 0
 IsClear [] = Unit {0}
 IsClear (first ∷ bytes) =
     (0xF0 ≤ first → first < 0xFC → first % 2 ^ 2 ≡ 0) × (0xF8 ≤ first → IsClearNumber bytes)
 
--- the first len of the bytes spell the word
+-- the first len of the bytes encode the word
 pub record BeginsWith (bytes : List ℕ) (word len : ℕ) : Type 0 where
   pub within : len ≤ length bytes
   pub spelled : SpellsWord (take len bytes) word
 
--- no spelling begins the bytes
+-- no encoding begins the bytes
 abbrev pub BeginsWithNone : List ℕ → Type 0
 BeginsWithNone bytes = (word len : ℕ) → BeginsWith bytes word len → ⊥
 
--- ---- reading, as a function: the word that begins the bytes, and how many of them spell it
+-- ---- reading, as a function: the word that begins the bytes, and how many of them encode it
 
--- the number of these high bits and so many bytes, where they are there
+-- the number of these high bits and n bytes, where they are there
 abbrev pub row_number : ℕ → ℕ → List ℕ → Option (ℕ × ℕ)
 row_number high count bytes =
     if nat_lt (length bytes) count then None
@@ -99,7 +99,7 @@ word_at (first ∷ bytes) =
     else if nat_lt first 0xFC then option_map (λ number. (inverse number.0, number.1 + 1)) (number_at bytes)
     else Some (inverse (first - 0xFC), 1)
 
--- ---- writing: the shortest spelling, with its ignored bits 0
+-- ---- writing: the shortest encoding, with its ignored bits 0
 
 unfoldable pub shortest_number : ℕ → List ℕ
 shortest_number number =

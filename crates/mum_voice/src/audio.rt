@@ -15,7 +15,7 @@ pub const SPEEX: u8 = 2;
 /// CELT 0.11 audio, a list of segments.
 pub const CELT_BETA: u8 = 3;
 
-/// Opus audio, behind one number.
+/// Opus audio, after one number.
 pub const OPUS: u8 = 4;
 
 /// Whether there is such a kind of audio.

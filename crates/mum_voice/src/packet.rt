@@ -18,7 +18,7 @@ pub const PACKET_LIMIT: usize = 1020;
 /// The most bytes of a copy, which has a session of up to five bytes more.
 pub const COPY_LIMIT: usize = 1025;
 
-/// The numbers for which the names of limits and kinds stand. The limits are the server's, the kinds
+/// The numbers that the names of limits and kinds stand for. The limits are the server's, the kinds
 /// the documentation's.
 pub fn limits()
     ensures packet { PACKET_LIMIT ≡ 1020 }
@@ -91,7 +91,7 @@ impl<'a> Packet<'a> {
         // Which bytes are a packet, and of which parts.
         ensures grammar { (p : Parts) →
             (parsed result ≡ Ok p) ↔ (IsPacket p × (bytes.now ≡ client_bytes p)) }
-        // Which fault stands first in bytes that are none.
+        // Which fault comes first in bytes that are none.
         ensures faults { (fault : BadVoice) →
             (parsed result ≡ Err fault) ↔ HasVoiceFault bytes.now fault }
         ensures proper { IfOk result (λ p. IsPacket (plain_parts p)) }

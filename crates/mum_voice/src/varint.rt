@@ -1,5 +1,5 @@
 //! The variable length integers of voice packets, as the section "Variable length integer encoding" of
-//! the Mumble protocol documentation has them. They spell 64-bit words, the highest byte first.
+//! the Mumble protocol documentation has them. They encode 64-bit words, the highest byte first.
 
 ghost use Rattle.std.specs.Prelude.{◌≡◌, ℕ, ◌+◌, ◌<◌, ◌≤◌, ◌^◌, ◌↔◌, ◌++◌, List, length, IsNone, IfSome, Some, None};
 ghost use Rattle.arrayvec.specs.ArrayVec.{array_vec_len};
@@ -81,8 +81,8 @@ fn read_word(bytes: &[u8]) -> Option<(u64, usize)>
     }
 }
 
-/// The word at the front of the bytes and how many of them spell it, or `None` where no spelling
-/// begins them. Every spelling is taken, and not only the shortest. Bytes may follow.
+/// The word at the front of the bytes and how many of them encode it, or `None` where no encoding
+/// begins them. Every encoding is taken, and not only the shortest. Bytes may follow.
 pub fn read_varint(bytes: &[u8]) -> Option<(u64, usize)>
     ensures read { (word len : ℕ) → (result ≡ Some (word, len)) ↔ BeginsWith bytes.now word len }
     ensures none { IsNone result ↔ BeginsWithNone bytes.now }
@@ -92,7 +92,7 @@ pub fn read_varint(bytes: &[u8]) -> Option<(u64, usize)>
     read_word(bytes)
 }
 
-// Appends the shortest spelling of a positive number.
+// Appends the shortest encoding of a positive number.
 #[tactic(auto, unfolding(crate::specs::Varint::shortest_number))]
 fn push_number(out: &mut ArrayVec<u8, VARINT_LIMIT>, number: u64)
     requires { array_vec_len out.old + length (shortest_number number) ≤ VARINT_LIMIT }
@@ -119,7 +119,7 @@ fn push_number(out: &mut ArrayVec<u8, VARINT_LIMIT>, number: u64)
     }
 }
 
-/// The shortest spelling of a word, with the bits that a reader ignores 0.
+/// The shortest encoding of a word, with the bits that a reader ignores 0.
 #[tactic(auto, unfolding(crate::specs::Varint::shortest_word))]
 pub fn write_varint(value: u64) -> ArrayVec<u8, VARINT_LIMIT>
     ensures bytes { result.items ≡ shortest_word value }
@@ -140,7 +140,7 @@ pub fn write_varint(value: u64) -> ArrayVec<u8, VARINT_LIMIT>
     out
 }
 
-/// What `write_varint` gives is a spelling of the word, and no spelling of it is shorter. It is the
+/// What `write_varint` gives is an encoding of the word, and no encoding of it is shorter. It is the
 /// only one of its length whose ignored bits are 0.
 pub fn shortest_is_least()
     ensures spelled { (word : ℕ) → word < 2 ^ 64 → SpellsWord (shortest_word word) word }

@@ -1,21 +1,16 @@
 -- What becomes of lists of bans that are answered.
 use Rattle.std.proofs.Common.{◌≡◌, ◌≢◌, ◌∙◌, ℕ, Bool, List, [], Option, None, Result, Ok, Err, IsTrue, refl, ap, length, cond}
 use Rattle.std.proofs.lemmas.Bool.{le-leb}
-use Rattle.mum_bans.specs.declared.ban.Ban.{Ban}
-use Rattle.mum_bans.specs.declared.ban_list.BanList.{BanList}
-use Rattle.mum_bans.specs.declared.verdict.BanVerdict.{BanVerdict}
-use Rattle.mum_bans.specs.declared.verdict.BanVerdict.TheVariants as bans
-use Rattle.mum_bans.specs.Answer.{answer}
-use Rattle.mum_bans.specs.Book.{Book, after_call}
-use Rattle.mum_bans.specs.Limits.{is_sound_book}
-use Rattle.mum_bans.specs.Verdict.{event_of}
-use Rattle.mum_bans.proofs.Sizes.{answer_fits}
 use Rattle.mum_base.specs.declared.number.SessionId.{SessionId}
-use Rattle.mum_fields.specs.declared.message.MessageFault.{MessageFault}
 use Rattle.mum_frame.specs.Frame.{spelling_of}
 use Rattle.mum_frame.specs.declared.frame.TheConstants.{PAYLOAD_LIMIT}
+use Rattle.mum_fields.specs.declared.message.MessageFault.{MessageFault}
+use Rattle.mum_bans.proofs.Public.{answer_fits}
+use Rattle.mum_bans.specs.declared.{ban.Ban.Ban, ban_list.BanList.BanList, verdict.BanVerdict.BanVerdict}
+use Rattle.mum_bans.specs.{Answer.answer, Book.Book, Book.after_call, Limits.is_sound_book, Verdict.event_of}
 use Rattle.mum_session.specs.declared.action.TheConstants.{BAN_LIST}
 use Rattle.mum_warden.specs.Answer.{answer_to, sent}
+use Rattle.mum_bans.specs.declared.verdict.BanVerdict.TheVariants as bans
 
 -- a list that is answered sets no bans
 pub no_event : (moment : ℕ) (verdict : BanVerdict) (list : Result BanList MessageFault) → answer_to verdict ≢ None → event_of moment verdict list ≡ None

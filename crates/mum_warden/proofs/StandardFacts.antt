@@ -1,14 +1,14 @@
 -- Frames worked out by hand.
 use Rattle.std.proofs.Common.{◌≡◌, [], length, refl}
-use Rattle.mum_base.proofs.Hex.{hex}
-use Rattle.mum_bans.specs.declared.verdict.BanVerdict.TheVariants as bans
+use Rattle.mum_base.proofs.Public.{hex}
 use Rattle.mum_base.specs.declared.number.SessionId.{SessionId}
 use Rattle.mum_frame.specs.Frame.{spelling_of}
+use Rattle.mum_fields.proofs.Public.{messages}
 use Rattle.mum_fields.specs.Table.{spelled}
-use Rattle.mum_fields.proofs.Worked.{messages}
 use Rattle.mum_msg_state.specs.Messages.{reject}
 use Rattle.mum_rules_tree.specs.Denial.{denied_frame}
 use Rattle.mum_warden.specs.Answer.{refusal, rejection, sent}
+use Rattle.mum_bans.specs.declared.verdict.BanVerdict.TheVariants as bans
 
 -- the message to who is banned is short
 pub ten_bytes : length (spelled reject rejection) ≡ 10

@@ -1,21 +1,19 @@
 -- What is sent to who brings a list of bans, and to who is banned.
 use Rattle.std.specs.Prelude.{ℕ, List, [], Option, Some, None, codes}
 use Rattle.std.specs.Option.{option_map_or}
-use Rattle.mum_bans.specs.declared.verdict.BanVerdict.{BanVerdict}
-use Rattle.mum_bans.specs.declared.verdict.BanVerdict.TheVariants as bans
 use Rattle.mum_base.specs.Codes.{deny_code}
-use Rattle.mum_base.specs.declared.number.SessionId.{SessionId}
-use Rattle.mum_base.specs.declared.number.TheConstants.ChannelId.{ROOT}
-use Rattle.mum_base.specs.declared.outcome.DenyType.TheVariants.{Text}
-use Rattle.mum_base.specs.declared.perm.TheConstants.Perm.{BAN}
-use Rattle.mum_fields.specs.Table.{spelled}
+use Rattle.mum_base.specs.declared.number.{SessionId.SessionId, TheConstants.ChannelId.ROOT}
+use Rattle.mum_base.specs.declared.{outcome.DenyType.TheVariants.Text, perm.TheConstants.Perm.BAN}
 use Rattle.mum_frame.specs.Frame.{spelling_of}
 use Rattle.mum_frame.specs.declared.kind.TheConstants.{REJECT}
+use Rattle.mum_fields.specs.Table.{spelled}
 use Rattle.mum_msg_state.specs.Messages.{reject}
 use Rattle.mum_msg_state.specs.declared.reject.Reject.{Reject}
+use Rattle.mum_state.specs.declared.verdict.Verdict.{Verdict}
+use Rattle.mum_bans.specs.declared.verdict.BanVerdict.{BanVerdict}
 use Rattle.mum_session.specs.Reply.{wire}
 use Rattle.mum_session.specs.declared.action.TheConstants.{BAN_LIST}
-use Rattle.mum_state.specs.declared.verdict.Verdict.{Verdict}
+use Rattle.mum_bans.specs.declared.verdict.BanVerdict.TheVariants as bans
 use Rattle.mum_state.specs.declared.verdict.Verdict.TheVariants as verdicts
 
 -- the verdict that answers who brought a list of bans: it lacks Ban on the root, or gets the bans in a BanList, or meets

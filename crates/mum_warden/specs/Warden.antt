@@ -1,9 +1,7 @@
 -- A warden as contracts see it, and what becomes of a list of bans.
 use Rattle.std.specs.Prelude.{ℕ, Bool, List, Option}
 use Rattle.mum_bans.specs.declared.verdict.BanVerdict.{BanVerdict}
-use Rattle.mum_bans.specs.Book.{Book, Event, with_added}
-use Rattle.mum_bans.specs.Parts.{list_in}
-use Rattle.mum_bans.specs.Verdict.{event_of, verdict_of}
+use Rattle.mum_bans.specs.{Book.Book, Book.Event, Book.with_added, Parts.list_in, Verdict.event_of, Verdict.verdict_of}
 
 pub record WardenFacts : Type 0 where
   -- what the clock answered last, and how often it was asked

@@ -10,7 +10,7 @@ ghost use Rattle.mum_frame.specs.Frame.{spelling_of};
 ghost use Rattle.mum_session.specs.declared.action.TheConstants.{BAN_LIST};
 ghost use Rattle.mum_warden.specs.Answer.{sent};
 
-/// Who asks for the bans is sent all of them in one frame.
+/// Whoever asks for the bans is sent all of them in one frame.
 pub fn answers_are_frames()
     ensures { (bans : List Ban) (session : SessionId) → IsTrue (is_sound_book bans) →
         sent session (Answer (answer bans)) ≡ spelling_of BAN_LIST (answer bans) }

@@ -1,31 +1,6 @@
 -- What a packet is aimed at, in words of the route.
-use Rattle.std.proofs.Common.{◌≡◌, ◌≢◌, ◌∙◌, ℕ, zero, suc, ◌&&◌, ◌||◌, ◌⊎◌, inl, inr, Bool, true, false, not, cond, eqb, List, [], ◌∷◌, map, Option, Some, None, refl, sym, ap, subst, ⊎_elim}
-use Rattle.std.specs.Prelude.{IsTrue}
-use Rattle.std.specs.List.{Contains, filter, list_any, slice_get}
-use Rattle.std.specs.Option.{option_map, option_map_or}
-use Rattle.std.proofs.lemmas.Bool.{and_from, and_parts, cases_eq, eq-eqb, eqb-true, false≢true, ne_eqb}
-use Rattle.std.proofs.lemmas.Option.{get_or_from_slice_get, none-some, same_Some, slice_get-get_or, slice_get-map, slice_get_within}
-use Rattle.mum_base.specs.Channels.{is_among}
-use Rattle.mum_base.specs.declared.number.ChannelId.{ChannelId}
-use Rattle.mum_base.specs.declared.number.SessionId.{SessionId}
-use Rattle.mum_base.specs.declared.perm.TheConstants.Perm.{SPEAK, WHISPER}
-use Rattle.mum_tree.specs.Rows.{is_there}
-use Rattle.mum_tree.specs.State.{TreeState}
+use Rattle.mum_why.proofs.Common.{◌≡◌, ◌≢◌, ◌∙◌, ℕ, zero, suc, ◌&&◌, ◌||◌, ◌⊎◌, inl, inr, Bool, true, false, not, cond, eqb, List, [], ◌∷◌, map, Option, Some, None, refl, sym, ap, subst, ⊎_elim, IsTrue, Contains, filter, list_any, slice_get, option_map, option_map_or, and_from, and_parts, cases_eq, eq-eqb, eqb-true, false≢true, ne_eqb, get_or_from_slice_get, none-some, same_Some, slice_get-get_or, slice_get-map, slice_get_within, is_among, ChannelId, SessionId, SPEAK, WHISPER, is_there, TreeState, any_from, any_has, linked_leads, same_number, TargetItem, User, IsProper, StateValue, shown, TALK, cover, spread, talk, may, needed_for, is_named, items_of, Contains-among, among-Contains, among-filter, among-spread, Aimed, aims_of, item_aim, one_names, spreads_over, talk_aim, IsAimedAt, IsNamedBy, SpreadsOver}
 use Rattle.mum_tree.specs.Walks.{linked}
-use Rattle.mum_tree.proofs.Closure.{any_from, any_has, linked_leads, same_number}
-use Rattle.mum_users.specs.declared.target.TargetItem.{TargetItem}
-use Rattle.mum_users.specs.declared.user.User.{User}
-use Rattle.mum_state.specs.Proper.{IsProper}
-use Rattle.mum_state.specs.State.{StateValue}
-use Rattle.mum_state.proofs.Each.{shown}
-use Rattle.mum_route.specs.declared.routes.TheConstants.{TALK}
-use Rattle.mum_route.specs.Cover.{cover, spread, talk}
-use Rattle.mum_route.specs.Hearing.{may}
-use Rattle.mum_route.specs.Laws.{needed_for}
-use Rattle.mum_route.specs.Route.{is_named, items_of}
-use Rattle.mum_route.proofs.Among.{Contains-among, among-Contains, among-filter, among-spread}
-use Rattle.mum_why.specs.Reason.{Aimed, aims_of, item_aim, one_names, spreads_over, talk_aim}
-use Rattle.mum_why.specs.ReasonLaws.{IsAimedAt, IsNamedBy, SpreadsOver}
 
 -- ---- places in lists
 

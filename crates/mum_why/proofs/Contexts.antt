@@ -1,32 +1,6 @@
 -- How the aims of a packet reach a session, by where they stop.
-use Rattle.std.proofs.Common.{◌≡◌, ◌≢◌, ◌∙◌, ℕ, ◌+◌, ◌&&◌, ◌||◌, Bool, true, false, not, cond, eqb, List, [], ◌∷◌, map, Option, Some, None, refl, sym, ap, ⊎_elim}
-use Rattle.std.specs.Prelude.{IsTrue, find, is_some}
-use Rattle.std.specs.List.{list_any}
-use Rattle.std.specs.Option.{option_map, option_or}
-use Rattle.std.proofs.lemmas.Bool.{cases_eq, ne_eqb}
-use Rattle.mum_base.specs.Channels.{is_among}
-use Rattle.mum_base.specs.declared.number.ChannelId.{ChannelId}
-use Rattle.mum_base.specs.declared.perm.TheConstants.Perm.{LISTEN, SPEAK, WHISPER}
-use Rattle.mum_tree.specs.Rows.{is_there}
-use Rattle.mum_users.specs.declared.listening.ListenerPair.{ListenerPair}
-use Rattle.mum_users.specs.declared.target.TargetItem.{TargetItem}
-use Rattle.mum_users.specs.declared.user.User.{User}
-use Rattle.mum_users.specs.Listeners.{pairs_of}
-use Rattle.mum_state.specs.Proper.{IsProper}
-use Rattle.mum_state.specs.State.{StateValue}
-use Rattle.mum_state.proofs.Each.{any_alike, any_map, some_found}
-use Rattle.mum_route.specs.declared.context.Context.{Context}
-use Rattle.mum_route.specs.declared.context.Context.TheVariants.{ChannelWhisper, DirectWhisper, Listener, Talk}
-use Rattle.mum_route.specs.declared.routes.TheConstants.{TALK}
-use Rattle.mum_route.specs.Cover.{cover, talk}
-use Rattle.mum_route.specs.Hearing.{is_in_group, may}
-use Rattle.mum_route.specs.Laws.{needed_for}
-use Rattle.mum_route.specs.Route.{by_items, by_talk, context_of, is_covered_by, is_named, is_named_by, is_within, items_of, listens_to, listens_within}
-use Rattle.mum_why.specs.declared.stop.Stop.{Stop}
-use Rattle.mum_why.specs.declared.stop.Stop.TheVariants.{Arrives}
-use Rattle.mum_why.specs.Reason.{Aimed, aims_of, channel_where, item_aim, level, one_names, spreads_over, stops, talk_aim, way_by_listening, way_from, way_to}
-use Rattle.mum_why.proofs.Aiming.{item_covers, talk_covers}
-use Rattle.mum_why.proofs.Stops.{stop_by}
+use Rattle.mum_why.proofs.Common.{◌≡◌, ◌≢◌, ◌∙◌, ℕ, ◌+◌, ◌&&◌, ◌||◌, Bool, true, false, not, cond, eqb, List, [], ◌∷◌, map, Option, Some, None, refl, sym, ap, ⊎_elim, IsTrue, find, is_some, list_any, option_map, option_or, cases_eq, ne_eqb, is_among, ChannelId, LISTEN, SPEAK, WHISPER, is_there, ListenerPair, TargetItem, User, pairs_of, IsProper, StateValue, any_alike, any_map, some_found, Context, ChannelWhisper, DirectWhisper, Listener, Talk, TALK, cover, talk, is_in_group, may, needed_for, by_items, by_talk, context_of, is_covered_by, is_named, is_named_by, is_within, items_of, listens_to, listens_within, Stop, Arrives, Aimed, aims_of, channel_where, item_aim, level, one_names, spreads_over, stops, talk_aim, way_by_listening, way_from, way_to}
+use Rattle.mum_why.proofs.{Aiming.item_covers, Aiming.talk_covers, Stops.stop_by}
 
 -- ---- one aim
 

@@ -1,24 +1,5 @@
 -- What is said of a permission that a session lacks does hold.
-use Rattle.std.proofs.Common.{◌≡◌, ℕ, zero, suc, ◌+◌, ◌<◌, ◌&&◌, ◌||◌, ◌⊎◌, inl, inr, Bool, true, false, cond, not, List, [], ◌∷◌, ◌++◌, length, take, drop, reverse, find, refl, sym, ap, subst, ◌∙◌, arith, bit_or, Option, Some, None, append_assoc}
-use Rattle.std.specs.List.{All, filter, list_any, slice_get}
-use Rattle.std.specs.Option.{option_map, option_map_or, option_or}
-use Rattle.std.proofs.lemmas.Bool.{and_parts, false≢true, not-false, or_parts}
-use Rattle.std.proofs.lemmas.List.{reverse-append}
-use Rattle.std.proofs.lemmas.List.Elements.{All-append, All-cons, All-head, All-nil, All-tail}
-use Rattle.std.proofs.lemmas.List.Folds.{find-append}
-use Rattle.std.proofs.lemmas.Option.{none-some}
-use Rattle.mum_base.specs.declared.number.ChannelId.{ChannelId}
-use Rattle.mum_base.specs.declared.perm.TheConstants.Perm.{ALL, BY_WRITE, ROOT_ONLY, SPEAK, START, WHISPER, WRITE}
-use Rattle.mum_policy.specs.declared.policy.AclEntry.{AclEntry}
-use Rattle.mum_policy.specs.Laws.{AreDeniesIn32Bits, IsPermission, IsWayOpen, counting, entries_of, held_by, is_held, is_super_user, last_naming, names_permission, passes, starts_over}
-use Rattle.mum_policy.specs.Member.{Actor, PolicyMap}
-use Rattle.mum_policy.specs.Walk.{applies, full_set, holds, is_asked, matches, on_root, perm}
-use Rattle.mum_policy.proofs.Bits.{holds_or}
-use Rattle.mum_policy.proofs.Held.{entries_decide}
-use Rattle.mum_policy.proofs.Walks.{perm_super}
-use Rattle.mum_why.specs.declared.cut.Cut.TheVariants.{Closed, RootOnly, SuperUser}
-use Rattle.mum_why.specs.Cut.{by_entry, closed_below, cut, last_along, last_in, last_place}
-use Rattle.mum_why.specs.CutLaws.{CutHolds, IsByWalk, NoneNames}
+use Rattle.mum_why.proofs.Common.{◌≡◌, ℕ, zero, suc, ◌+◌, ◌<◌, ◌&&◌, ◌||◌, ◌⊎◌, inl, inr, Bool, true, false, cond, not, List, [], ◌∷◌, ◌++◌, length, take, drop, reverse, find, refl, sym, ap, subst, ◌∙◌, arith, bit_or, Option, Some, None, append_assoc, All, filter, list_any, slice_get, option_map, option_map_or, option_or, and_parts, false≢true, not-false, or_parts, reverse-append, All-append, All-cons, All-head, All-nil, All-tail, find-append, none-some, ChannelId, ALL, BY_WRITE, ROOT_ONLY, SPEAK, START, WHISPER, WRITE, AclEntry, AreDeniesIn32Bits, IsPermission, IsWayOpen, counting, entries_of, held_by, is_held, is_super_user, last_naming, names_permission, passes, starts_over, Actor, PolicyMap, applies, full_set, holds, is_asked, matches, on_root, perm, holds_or, entries_decide, perm_super, Closed, RootOnly, SuperUser, by_entry, closed_below, cut, last_along, last_in, last_place, CutHolds, IsByWalk, NoneNames}
 
 -- ---- the last entry of a list
 
@@ -283,12 +264,12 @@ along_of policies path who p place (channel ∷ below) = along_more policies pat
 
 -- ---- where the walk ends
 
--- what holds of the first and of those behind it holds of all up to some place
+-- what holds of the first and of those after it holds of all up to some place
 first_or : (P : ℕ → Type 0) (n : ℕ) → P 0 → ((k : ℕ) → k < n → P (suc k)) → (m : ℕ) → m < suc n → P m
 first_or P n first more zero under = first
 first_or P n first more (suc k) under = more k (omega arith)
 
--- behind others, the channel is the first of these that the session does not pass
+-- after others, the channel is the first of these that the session does not pass
 pub record IsFirstClosed (policies : PolicyMap) (path : List ChannelId) (who : Actor) (above below : List ChannelId) (channel : ChannelId) : Type 0 where
   pub n : ℕ
   pub there : slice_get below n ≡ Some channel

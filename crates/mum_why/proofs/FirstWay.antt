@@ -1,17 +1,5 @@
 -- The first that stops just there, one item or one channel after the other.
-use Rattle.std.proofs.Common.{◌≡◌, ◌∙◌, ℕ, ◌+◌, ◌<◌, ◌≤◌, Bool, true, false, cond, List, ◌∷◌, length, map, get_or, drop, Option, Some, None, refl, sym, ap}
-use Rattle.std.specs.Prelude.{find}
-use Rattle.std.specs.Option.{option_map, option_or}
-use Rattle.std.proofs.Math.ListN.{drop_of_length-le}
-use Rattle.std.proofs.lemmas.List.{drop_more}
-use Rattle.mum_base.specs.declared.number.ChannelId.{ChannelId}
-use Rattle.mum_base.specs.declared.number.SessionId.{SessionId}
-use Rattle.mum_users.specs.declared.target.TargetItem.{TargetItem}
-use Rattle.mum_users.specs.declared.user.User.{User}
-use Rattle.mum_state.specs.State.{StateValue}
-use Rattle.mum_route.specs.declared.routes.TheConstants.{TALK}
-use Rattle.mum_why.specs.declared.stop.Stop.{Stop}
-use Rattle.mum_why.specs.Reason.{Aimed, aims_of, channel_where, item_aim, talk_aim, way_from}
+use Rattle.mum_why.proofs.Common.{◌≡◌, ◌∙◌, ℕ, ◌+◌, ◌<◌, ◌≤◌, Bool, true, false, cond, List, ◌∷◌, length, map, get_or, drop, Option, Some, None, refl, sym, ap, find, option_map, option_or, drop_of_length-le, drop_more, ChannelId, SessionId, TargetItem, User, StateValue, TALK, Stop, Aimed, aims_of, channel_where, item_aim, talk_aim, way_from}
 use Rattle.mum_why.proofs.Aiming.{aims_of_talk}
 
 -- ---- the first of a list

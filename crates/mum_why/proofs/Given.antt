@@ -1,26 +1,5 @@
 -- The laws of cuts, of a state.
-use Rattle.std.proofs.Common.{◌≡◌, ℕ, ◌^◌, ◌<◌, ◌≤◌, ◌&&◌, Bool, true, false, cond, not, List, [], ◌∷◌, refl, sym, ap, subst, ◌∙◌, arith, bit_and, Option, Some, None}
-use Rattle.std.specs.Prelude.{◌==◌, find, is_some}
-use Rattle.std.specs.List.{All, list_all}
-use Rattle.std.specs.Option.{option_map, option_map_or}
-use Rattle.std.proofs.lemmas.Bool.{and_parts, eqb-true}
-use Rattle.std.proofs.lemmas.List.Elements.{All-cons, All-nil}
-use Rattle.std.proofs.lemmas.Nat.{and_le_l}
-use Rattle.std.proofs.lemmas.Option.{none-some, same_Some}
-use Rattle.mum_base.specs.declared.number.ChannelId.{ChannelId}
-use Rattle.mum_policy.specs.declared.policy.AclEntry.{AclEntry}
-use Rattle.mum_policy.specs.declared.policy.ChannelPolicy.{ChannelPolicy}
-use Rattle.mum_policy.specs.Laws.{AreDeniesIn32Bits}
-use Rattle.mum_policy.specs.Limits.{is_large_policy}
-use Rattle.mum_policy.specs.Member.{Actor}
-use Rattle.mum_policy.specs.Walk.{holds}
-use Rattle.mum_tree.specs.Rows.{path}
-use Rattle.mum_state.specs.Permissions.{actor_in, granted_to}
-use Rattle.mum_state.specs.Proper.{are_permissions, is_name, is_sound_entry, is_sound_policy, IsProper}
-use Rattle.mum_state.specs.State.{PolicyRow, StateValue, policy_of}
-use Rattle.mum_why.specs.declared.cut.Cut.{Cut}
-use Rattle.mum_why.specs.Cut.{cut}
-use Rattle.mum_why.specs.CutLaws.{CutHolds, CutsAreGiven, CutsHold}
+use Rattle.mum_why.proofs.Common.{◌≡◌, ℕ, ◌^◌, ◌<◌, ◌≤◌, ◌&&◌, Bool, true, false, cond, not, List, [], ◌∷◌, refl, sym, ap, subst, ◌∙◌, arith, bit_and, Option, Some, None, ◌==◌, find, is_some, All, list_all, option_map, option_map_or, and_parts, eqb-true, All-cons, All-nil, and_le_l, none-some, same_Some, ChannelId, AclEntry, ChannelPolicy, AreDeniesIn32Bits, is_large_policy, Actor, holds, path, actor_in, granted_to, are_permissions, is_name, is_sound_entry, is_sound_policy, IsProper, PolicyRow, StateValue, policy_of, Cut, cut, CutHolds, CutsAreGiven, CutsHold}
 use Rattle.mum_why.proofs.Cuts.{cut_holds}
 
 -- ---- where one is given

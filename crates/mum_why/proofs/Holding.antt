@@ -1,39 +1,6 @@
 -- What is said of a session that does not hear does hold.
-use Rattle.std.proofs.Common.{◌≡◌, ◌≢◌, ◌∙◌, ℕ, ◌<◌, ◌&&◌, ◌||◌, ◌⊎◌, inl, inr, Bool, true, false, not, eqb, List, [], ◌∷◌, length, map, Option, Some, None, refl, sym, ap, subst, arith, ⊎_elim}
-use Rattle.std.specs.Prelude.{IsTrue, is_some}
-use Rattle.std.specs.List.{Contains, slice_get}
-use Rattle.std.specs.Option.{option_map_or}
-use Rattle.std.proofs.lemmas.Bool.{and_from, and_parts, eq-eqb, eqb-true, false≢true, not-true, or_cases}
-use Rattle.std.proofs.lemmas.Option.{none-some}
-use Rattle.mum_base.specs.declared.number.ChannelId.{ChannelId}
-use Rattle.mum_base.specs.declared.number.SessionId.{SessionId}
-use Rattle.mum_base.specs.declared.perm.TheConstants.Perm.{LISTEN, SPEAK, WHISPER}
-use Rattle.mum_tree.specs.Rows.{is_there}
-use Rattle.mum_users.specs.declared.listening.ListenerPair.{ListenerPair}
-use Rattle.mum_users.specs.declared.target.TargetItem.{TargetItem}
-use Rattle.mum_users.specs.declared.user.User.{User}
-use Rattle.mum_users.specs.Sessions.{session_of}
-use Rattle.mum_state.specs.Proper.{IsProper}
-use Rattle.mum_state.specs.State.{StateValue}
-use Rattle.mum_route.specs.declared.context.Context.{Context}
-use Rattle.mum_route.specs.declared.context.Context.TheVariants.{DirectWhisper, Listener, Talk}
-use Rattle.mum_route.specs.declared.routes.TheConstants.{TALK}
-use Rattle.mum_route.specs.Cover.{cover, talk}
-use Rattle.mum_route.specs.Hearing.{is_in_group, may}
-use Rattle.mum_route.specs.Laws.{needed_for}
-use Rattle.mum_route.specs.Route.{items_of}
-use Rattle.mum_route.proofs.Among.{Contains-among, among-Contains}
-use Rattle.mum_route.proofs.Present.{all_at}
-use Rattle.mum_why.specs.declared.reason.Reason.TheVariants.{NoHearer, NoSpeaker}
-use Rattle.mum_why.specs.declared.stop.Stop.TheVariants.{Arrives, LacksListen, LacksPermission, NoMember}
-use Rattle.mum_why.specs.Cut.{cut_of}
-use Rattle.mum_why.specs.Reason.{Aimed, aims_of, by_aims, item_aim, one_names, reason_between, spreads_over, talk_aim, way_by_listening, way_from, way_to}
-use Rattle.mum_why.specs.ReasonLaws.{IsAimedAt, IsCoveredFor, IsListened, IsNamedBy, IsOutsideOf, ReasonHolds, ReasonsHold}
-use Rattle.mum_why.proofs.Aiming.{IsAimOf, aim_of, aimed_from, aimed_into, aims_of_items, aims_of_talk, contains_at, item_covers, item_there, may_aim, named_from, named_into, talk_covers}
-use Rattle.mum_why.proofs.Contexts.{by_ways, context_is, inside_of}
-use Rattle.mum_why.proofs.Reasons.{AreThere, IsNowhere, IsOpen, both_there, by_rules, by_ways_of, cut_given, lacks, none_is, some_is}
-use Rattle.mum_why.proofs.Routed.{in_loopback, in_route, same_as_own}
-use Rattle.mum_why.proofs.Stops.{IsAt, IsFirstStop, IsStop, first_stops, none_earlier, none_stops}
+use Rattle.mum_why.proofs.Common.{◌≡◌, ◌≢◌, ◌∙◌, ℕ, ◌<◌, ◌&&◌, ◌||◌, ◌⊎◌, inl, inr, Bool, true, false, not, eqb, List, [], ◌∷◌, length, map, Option, Some, None, refl, sym, ap, subst, arith, ⊎_elim, IsTrue, is_some, Contains, slice_get, option_map_or, and_from, and_parts, eq-eqb, eqb-true, false≢true, not-true, or_cases, none-some, ChannelId, SessionId, LISTEN, SPEAK, WHISPER, is_there, ListenerPair, TargetItem, User, session_of, IsProper, StateValue, Context, DirectWhisper, Listener, Talk, TALK, cover, talk, is_in_group, may, needed_for, items_of, Contains-among, among-Contains, all_at, NoHearer, NoSpeaker, Arrives, LacksListen, LacksPermission, NoMember, cut_of, Aimed, aims_of, by_aims, item_aim, one_names, reason_between, spreads_over, talk_aim, way_by_listening, way_from, way_to, IsAimedAt, IsCoveredFor, IsListened, IsNamedBy, IsOutsideOf, ReasonHolds, ReasonsHold}
+use Rattle.mum_why.proofs.{Aiming.IsAimOf, Aiming.aim_of, Aiming.aimed_from, Aiming.aimed_into, Aiming.aims_of_items, Aiming.aims_of_talk, Aiming.contains_at, Aiming.item_covers, Aiming.item_there, Aiming.may_aim, Aiming.named_from, Aiming.named_into, Aiming.talk_covers, Contexts.by_ways, Contexts.context_is, Contexts.inside_of, Reasons.AreThere, Reasons.IsNowhere, Reasons.IsOpen, Reasons.both_there, Reasons.by_rules, Reasons.by_ways_of, Reasons.cut_given, Reasons.lacks, Reasons.none_is, Reasons.some_is, Routed.in_loopback, Routed.in_route, Routed.same_as_own, Stops.IsAt, Stops.IsFirstStop, Stops.IsStop, Stops.first_stops, Stops.none_earlier, Stops.none_stops}
 
 -- a channel to which a session listens is there
 pub listened_inside : (state : StateValue) (user : User) (channel : ChannelId) → IsProper state → IsListened state user channel → IsTrue (is_there state.tree.channels channel)

@@ -1,3 +1,4 @@
+mod Common
 pub mod Walked
 pub mod Cuts
 pub mod Given

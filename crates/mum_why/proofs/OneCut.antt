@@ -1,18 +1,5 @@
 -- No two cuts hold of a session and a permission.
-use Rattle.std.proofs.Common.{◌≡◌, ◌∙◌, ℕ, zero, suc, ◌+◌, ◌-◌, ◌<◌, Bool, true, false, cond, List, [], ◌∷◌, ◌++◌, length, take, drop, get_or, Some, refl, sym, ap, subst, arith, ⊎_elim}
-use Rattle.std.specs.List.{Contains, filter, list_any, slice_get}
-use Rattle.std.proofs.lemmas.Bool.{cases_order, false≢true, or_right}
-use Rattle.std.proofs.lemmas.List.{drop-drop, drop_more, get_or-drop, length-drop, take-append-drop, take_more}
-use Rattle.std.proofs.lemmas.List.Elements.{All-contains, Contains-append_left, Contains-append_right}
-use Rattle.std.proofs.lemmas.Option.{get_or_from_slice_get, none-some, same_Some, slice_get-get_or, slice_get_within}
-use Rattle.mum_base.specs.declared.number.ChannelId.{ChannelId}
-use Rattle.mum_policy.specs.declared.policy.AclEntry.{AclEntry}
-use Rattle.mum_policy.specs.Laws.{IsWayOpen, counting, entries_of, matching_at, names_permission, passes, starts_over}
-use Rattle.mum_policy.specs.Member.{Actor, PolicyMap}
-use Rattle.mum_policy.specs.Walk.{applies, holds, is_asked, matches}
-use Rattle.mum_tree.proofs.Joined.{contains_filtered}
-use Rattle.mum_why.specs.declared.cut.Cut.TheVariants.{Closed, Denied, NeverGiven, RootOnly, SuperUser}
-use Rattle.mum_why.specs.CutLaws.{CutsAreAlone, IsClosed, IsDenied, IsNeverGiven, NoneNames}
+use Rattle.mum_why.proofs.Common.{◌≡◌, ◌∙◌, ℕ, zero, suc, ◌+◌, ◌-◌, ◌<◌, Bool, true, false, cond, List, [], ◌∷◌, ◌++◌, length, take, drop, get_or, Some, refl, sym, ap, subst, arith, ⊎_elim, Contains, filter, list_any, slice_get, cases_order, false≢true, or_right, drop-drop, drop_more, get_or-drop, length-drop, take-append-drop, take_more, All-contains, Contains-append_left, Contains-append_right, get_or_from_slice_get, none-some, same_Some, slice_get-get_or, slice_get_within, ChannelId, AclEntry, IsWayOpen, counting, entries_of, matching_at, names_permission, passes, starts_over, Actor, PolicyMap, applies, holds, is_asked, matches, contains_filtered, Closed, Denied, NeverGiven, RootOnly, SuperUser, CutsAreAlone, IsClosed, IsDenied, IsNeverGiven, NoneNames}
 
 -- ---- lists
 
@@ -80,7 +67,7 @@ not_below {policies} {path} {who} {p} {channel} {lower} {index} {other} d e belo
     (ap (λ (cs : List ChannelId). applies (is_asked cs) e.entry) rest ∙ e.applicable))
     (denied_names e)
 
--- none is behind another in one list
+-- none is after another in one list
 not_behind : {policies : PolicyMap} {path : List ChannelId} {who : Actor} {p : ℕ} {channel same : ChannelId} {index other : ℕ} (d : IsDenied policies path who p channel index)
     (e : IsDenied policies path who p same other) → d.place ≡ e.place → index < other → ⊥
 not_behind {policies} {path} {who} {p} {channel} {same} {index} {other} d e at behind =

@@ -1,40 +1,6 @@
 -- No reason that comes before the one that is given holds.
-use Rattle.std.proofs.Common.{◌≡◌, ◌≢◌, ◌∙◌, ℕ, ◌≤◌, ◌||◌, ◌⊎◌, inl, inr, Bool, true, false, not, cond, eqb, List, [], length, map, Option, Some, None, refl, sym, ap, subst, arith, ⊎_elim}
-use Rattle.std.specs.Prelude.{IsTrue, is_some, unwrap_or}
-use Rattle.std.specs.List.{slice_get}
-use Rattle.std.specs.Option.{option_map, option_map_or}
-use Rattle.std.proofs.lemmas.Bool.{and_from, and_parts, eq-eqb, not_from_false, or_left, or_right}
-use Rattle.mum_base.specs.declared.number.ChannelId.{ChannelId}
-use Rattle.mum_base.specs.declared.number.SessionId.{SessionId}
-use Rattle.mum_base.specs.declared.perm.TheConstants.Perm.{LISTEN, SPEAK, WHISPER}
-use Rattle.mum_tree.specs.Rows.{is_there}
-use Rattle.mum_users.specs.declared.target.TargetItem.{TargetItem}
-use Rattle.mum_users.specs.declared.user.User.{User}
-use Rattle.mum_users.specs.Sessions.{session_of}
-use Rattle.mum_users.specs.State.{has_number}
-use Rattle.mum_state.specs.Proper.{IsProper}
-use Rattle.mum_state.specs.State.{StateValue}
-use Rattle.mum_route.specs.declared.context.Context.{Context}
-use Rattle.mum_route.specs.declared.context.Context.TheVariants.{Talk}
-use Rattle.mum_route.specs.declared.routes.TheConstants.{LOOPBACK, TALK}
-use Rattle.mum_route.specs.Cover.{cover, talk}
-use Rattle.mum_route.specs.Hearing.{may}
-use Rattle.mum_route.specs.Laws.{needed_for}
-use Rattle.mum_route.specs.Route.{context_of, items_of}
-use Rattle.mum_route.proofs.Among.{Contains-among}
-use Rattle.mum_why.specs.declared.cut.Cut.{Cut}
-use Rattle.mum_why.specs.declared.reason.Reason.{Reason}
-use Rattle.mum_why.specs.declared.reason.Reason.TheVariants.{Deaf, DeafenedItself, Heard, ItIsItself, ListenerLacks, ListenerOutsideGroup, Muted, MutedItself, NoHearer, NoSpeaker, OnlyLoopback, OutsideGroup, SpeakerLacks, SpeakerLacksAtListener, Suppressed, Uncovered, Unset}
-use Rattle.mum_why.specs.declared.stop.Stop.{Stop}
-use Rattle.mum_why.specs.declared.stop.Stop.TheVariants.{LacksListen, LacksPermission, NoMember}
-use Rattle.mum_why.specs.Cut.{cut_at}
-use Rattle.mum_why.specs.Reason.{Aimed, aims_of, by_aims, item_aim, left_out, one_names, reason, reason_between, spreads_over, talk_aim, way_from, way_to}
-use Rattle.mum_why.specs.ReasonLaws.{IsAimedAt, IsCoveredFor, IsListened, IsNamedBy, IsOutsideOf, ReasonHolds, ReasonsAreFirst, rank}
-use Rattle.mum_why.proofs.Aiming.{IsSpread, aimed_into, aims_of_items, at_of, contains_at, item_covers, item_there, may_aim, named_into, talk_covers, talk_there}
-use Rattle.mum_why.proofs.Holding.{outside_stop}
-use Rattle.mum_why.proofs.Reasons.{between_is, both_there, lacking_where_cut, lacks, ladder, left_by, left_is, listener_outside_way, outside_way, reason_is, silencing, some_unless, unlistened_way, unspoken_way}
-use Rattle.mum_why.proofs.Routed.{reasons_are_routes}
-use Rattle.mum_why.proofs.Stops.{IsAt, IsStop, none_stops}
+use Rattle.mum_why.proofs.Common.{◌≡◌, ◌≢◌, ◌∙◌, ℕ, ◌≤◌, ◌||◌, ◌⊎◌, inl, inr, Bool, true, false, not, cond, eqb, List, [], length, map, Option, Some, None, refl, sym, ap, subst, arith, ⊎_elim, IsTrue, is_some, unwrap_or, slice_get, option_map, option_map_or, and_from, and_parts, eq-eqb, not_from_false, or_left, or_right, ChannelId, SessionId, LISTEN, SPEAK, WHISPER, is_there, TargetItem, User, session_of, has_number, IsProper, StateValue, Context, Talk, LOOPBACK, TALK, cover, talk, may, needed_for, context_of, items_of, Contains-among, Cut, Reason, Deaf, DeafenedItself, Heard, ItIsItself, ListenerLacks, ListenerOutsideGroup, Muted, MutedItself, NoHearer, NoSpeaker, OnlyLoopback, OutsideGroup, SpeakerLacks, SpeakerLacksAtListener, Suppressed, Uncovered, Unset, Stop, LacksListen, LacksPermission, NoMember, cut_at, Aimed, aims_of, by_aims, item_aim, left_out, one_names, reason, reason_between, spreads_over, talk_aim, way_from, way_to, IsAimedAt, IsCoveredFor, IsListened, IsNamedBy, IsOutsideOf, ReasonHolds, ReasonsAreFirst, rank}
+use Rattle.mum_why.proofs.{Aiming.IsSpread, Aiming.aimed_into, Aiming.aims_of_items, Aiming.at_of, Aiming.contains_at, Aiming.item_covers, Aiming.item_there, Aiming.may_aim, Aiming.named_into, Aiming.talk_covers, Aiming.talk_there, Holding.outside_stop, Reasons.between_is, Reasons.both_there, Reasons.lacking_where_cut, Reasons.lacks, Reasons.ladder, Reasons.left_by, Reasons.left_is, Reasons.listener_outside_way, Reasons.outside_way, Reasons.reason_is, Reasons.silencing, Reasons.some_unless, Reasons.unlistened_way, Reasons.unspoken_way, Routed.reasons_are_routes, Stops.IsAt, Stops.IsStop, Stops.none_stops}
 
 -- ---- ranks
 

@@ -1,34 +1,5 @@
 -- The reasons of two sessions that are there, one after the other.
-use Rattle.std.proofs.Common.{◌≡◌, ◌≢◌, ◌∙◌, ℕ, ◌||◌, Bool, true, false, not, cond, eqb, length, Option, Some, None, refl, sym, ap, subst}
-use Rattle.std.specs.Prelude.{IsTrue, is_some, unwrap_or}
-use Rattle.std.specs.Option.{option_map, option_map_or, option_or}
-use Rattle.std.proofs.lemmas.Bool.{and_from, and_parts, cond-false, cond_both, eqb-false, eqb-true, ne_eqb, not-true, not_from_false, or_from, or_parts}
-use Rattle.mum_base.specs.declared.number.ChannelId.{ChannelId}
-use Rattle.mum_base.specs.declared.number.SessionId.{SessionId}
-use Rattle.mum_base.specs.declared.perm.Perm.{Perm}
-use Rattle.mum_base.specs.declared.perm.TheConstants.Perm.{LISTEN, SPEAK}
-use Rattle.mum_policy.specs.Member.{Actor}
-use Rattle.mum_tree.specs.Rows.{is_there, path}
-use Rattle.mum_users.specs.declared.user.User.{User}
-use Rattle.mum_users.specs.Sessions.{session_of}
-use Rattle.mum_users.specs.State.{has_number}
-use Rattle.mum_state.specs.Permissions.{actor_from, actor_in}
-use Rattle.mum_state.specs.Proper.{IsProper}
-use Rattle.mum_state.specs.State.{StateValue, policy_of}
-use Rattle.mum_route.specs.declared.context.Context.{Context}
-use Rattle.mum_route.specs.declared.context.Context.TheVariants.{Talk}
-use Rattle.mum_route.specs.declared.routes.TheConstants.{LOOPBACK}
-use Rattle.mum_route.specs.Hearing.{can_hear, is_silent, may}
-use Rattle.mum_route.specs.Laws.{needed_for}
-use Rattle.mum_route.specs.Route.{context_of}
-use Rattle.mum_route.proofs.Hearers.{found_number}
-use Rattle.mum_route.proofs.Present.{channel_there}
-use Rattle.mum_why.specs.declared.cut.Cut.{Cut}
-use Rattle.mum_why.specs.declared.reason.Reason.{Reason}
-use Rattle.mum_why.specs.declared.reason.Reason.TheVariants.{Deaf, DeafenedItself, Heard, ItIsItself, ListenerLacks, ListenerOutsideGroup, Muted, MutedItself, NoHearer, NoSpeaker, OnlyLoopback, OutsideGroup, SpeakerLacks, SpeakerLacksAtListener, Suppressed, Uncovered, Unset}
-use Rattle.mum_why.specs.declared.stop.Stop.TheVariants.{LacksListen, LacksPermission, NoMember}
-use Rattle.mum_why.specs.Cut.{cut, cut_at, cut_of}
-use Rattle.mum_why.specs.Reason.{aims_of, by_aims, lacks_where_it_is, left_out, reason, reason_between, way_by_listening, way_to}
+use Rattle.mum_why.proofs.Common.{◌≡◌, ◌≢◌, ◌∙◌, ℕ, ◌||◌, Bool, true, false, not, cond, eqb, length, Option, Some, None, refl, sym, ap, subst, IsTrue, is_some, unwrap_or, option_map, option_map_or, option_or, and_from, and_parts, cond-false, cond_both, eqb-false, eqb-true, ne_eqb, not-true, not_from_false, or_from, or_parts, ChannelId, SessionId, Perm, LISTEN, SPEAK, Actor, is_there, path, User, session_of, has_number, actor_from, actor_in, IsProper, StateValue, policy_of, Context, Talk, LOOPBACK, can_hear, is_silent, may, needed_for, context_of, found_number, channel_there, Cut, Reason, Deaf, DeafenedItself, Heard, ItIsItself, ListenerLacks, ListenerOutsideGroup, Muted, MutedItself, NoHearer, NoSpeaker, OnlyLoopback, OutsideGroup, SpeakerLacks, SpeakerLacksAtListener, Suppressed, Uncovered, Unset, LacksListen, LacksPermission, NoMember, cut, cut_at, cut_of, aims_of, by_aims, lacks_where_it_is, left_out, reason, reason_between, way_by_listening, way_to}
 
 -- ---- options
 

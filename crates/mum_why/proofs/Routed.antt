@@ -1,30 +1,6 @@
 -- Who is heard, by its reason and by the route.
-use Rattle.std.proofs.Common.{◌≡◌, ◌≢◌, ◌∙◌, ℕ, zero, suc, ◌||◌, Bool, true, false, cond, eqb, List, [], ◌∷◌, get_or, Option, Some, None, refl, sym, ap, subst, arith, ⊎_elim}
-use Rattle.std.specs.List.{Contains}
-use Rattle.std.specs.Option.{option_map_or}
-use Rattle.std.proofs.lemmas.Bool.{cases_eq, eq-eqb, eqb-true}
-use Rattle.std.proofs.lemmas.List.Elements.{All-contains, Contains-get_or}
-use Rattle.mum_base.specs.declared.number.SessionId.{SessionId}
-use Rattle.mum_tree.proofs.Upward.{none_contained}
-use Rattle.mum_users.specs.declared.user.User.{User}
-use Rattle.mum_users.specs.Sessions.{session_of}
-use Rattle.mum_users.specs.State.{has_number}
-use Rattle.mum_state.specs.Proper.{IsProper}
-use Rattle.mum_state.specs.State.{StateValue}
-use Rattle.mum_route.specs.declared.context.Context.{Context}
-use Rattle.mum_route.specs.declared.context.Context.TheVariants.{ChannelWhisper, DirectWhisper, Listener, Talk}
-use Rattle.mum_route.specs.declared.routes.TheConstants.{LOOPBACK}
-use Rattle.mum_route.specs.Aims.{heard_as}
-use Rattle.mum_route.specs.Context.{code}
-use Rattle.mum_route.specs.Hearing.{can_hear, is_silent}
-use Rattle.mum_route.specs.Route.{Member, context_of, member_by, route}
-use Rattle.mum_route.proofs.Hearers.{IsHearing, each_hearing, found_number, found_own, members_contain, route_of_heard, route_of_loopback, route_of_none, route_of_silent}
-use Rattle.mum_why.specs.declared.reason.Reason.{Reason}
-use Rattle.mum_why.specs.declared.reason.Reason.TheVariants.{Heard, NoHearer, NoSpeaker, OnlyLoopback}
-use Rattle.mum_why.specs.Reason.{by_aims, left_out, aims_of, reason, reason_between}
-use Rattle.mum_why.specs.ReasonLaws.{ReasonsAreRoutes}
-use Rattle.mum_why.proofs.Reasons.{AreThere, both_there, by_rules, by_ways_of, ladder, open_is, reason_is, between_is, silencing, IsOpen}
-use Rattle.mum_why.proofs.Stops.{find_from}
+use Rattle.mum_why.proofs.Common.{◌≡◌, ◌≢◌, ◌∙◌, ℕ, zero, suc, ◌||◌, Bool, true, false, cond, eqb, List, [], ◌∷◌, get_or, Option, Some, None, refl, sym, ap, subst, arith, ⊎_elim, Contains, option_map_or, cases_eq, eq-eqb, eqb-true, All-contains, Contains-get_or, SessionId, none_contained, User, session_of, has_number, IsProper, StateValue, Context, ChannelWhisper, DirectWhisper, Listener, Talk, LOOPBACK, heard_as, code, can_hear, is_silent, Member, context_of, member_by, route, IsHearing, each_hearing, found_number, found_own, members_contain, route_of_heard, route_of_loopback, route_of_none, route_of_silent, Reason, Heard, NoHearer, NoSpeaker, OnlyLoopback, by_aims, left_out, aims_of, reason, reason_between, ReasonsAreRoutes}
+use Rattle.mum_why.proofs.{Reasons.AreThere, Reasons.both_there, Reasons.by_rules, Reasons.by_ways_of, Reasons.ladder, Reasons.open_is, Reasons.reason_is, Reasons.between_is, Reasons.silencing, Reasons.IsOpen, Stops.find_from}
 
 -- ---- the numbers of contexts
 

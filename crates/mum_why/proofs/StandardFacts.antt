@@ -1,22 +1,6 @@
 -- Why sessions are not heard, worked out on small states.
-use Rattle.std.proofs.Common.{◌≡◌, ℕ, true, refl, List, [], ◌∷◌, ◌++◌, codes, Option, Some, None}
-use Rattle.mum_base.specs.declared.perm.Perm.{Perm}
-use Rattle.mum_base.specs.declared.perm.TheConstants.Perm.{ENTER, KICK, LISTEN, MUTE_DEAFEN, SPEAK, TRAVERSE, WHISPER, WRITE}
-use Rattle.mum_policy.specs.Laws.{matching}
-use Rattle.mum_policy.proofs.Scenes.{afresh, denies, everybody, grants, one, only_below, only_here, plain, the_account, two}
-use Rattle.mum_tree.specs.Walks.{is_reached}
-use Rattle.mum_users.specs.declared.target.TargetItem.{TargetItem}
-use Rattle.mum_users.proofs.Scenes.{channel, item_sessions, same_flags, session, with_group}
-use Rattle.mum_state.specs.declared.edit.Edit.{Edit}
-use Rattle.mum_state.proofs.Scenes.{enter, join, join_as, listen, make, move, set_policy, set_target, state}
-use Rattle.mum_route.specs.declared.context.Context.TheVariants.{ChannelWhisper, DirectWhisper, Listener, Talk}
-use Rattle.mum_route.proofs.StandardFacts.{each_in_its_own, flags, linked, loopback, spread_out, talk, three, wide, without}
-use Rattle.mum_why.specs.declared.cut.Cut.{Cut}
-use Rattle.mum_why.specs.declared.cut.Cut.TheVariants.{Closed, Denied, NeverGiven, RootOnly, SuperUser}
-use Rattle.mum_why.specs.declared.reason.Reason.{Reason}
-use Rattle.mum_why.specs.declared.reason.Reason.TheVariants.{Deaf, DeafenedItself, Heard, ItIsItself, ListenerLacks, ListenerOutsideGroup, Muted, MutedItself, NoHearer, NoSpeaker, OnlyLoopback, OutsideGroup, SpeakerLacks, SpeakerLacksAtListener, Suppressed, Uncovered, Unset}
-use Rattle.mum_why.specs.Cut.{closed_below, cut_of, last_along, last_place}
-use Rattle.mum_why.specs.Reason.{reason, way_from}
+use Rattle.mum_why.proofs.Common.{◌≡◌, ℕ, true, refl, List, [], ◌∷◌, ◌++◌, codes, Option, Some, None, Perm, ENTER, KICK, LISTEN, MUTE_DEAFEN, SPEAK, TRAVERSE, WHISPER, WRITE, matching, afresh, denies, everybody, grants, one, only_below, only_here, plain, the_account, two, is_reached, TargetItem, channel, item_sessions, same_flags, session, with_group, Edit, enter, join, join_as, listen, make, move, set_policy, set_target, state, ChannelWhisper, DirectWhisper, Listener, Talk, each_in_its_own, flags, linked, loopback, spread_out, three, wide, without, Cut, Closed, Denied, NeverGiven, RootOnly, SuperUser, Reason, Deaf, DeafenedItself, Heard, ItIsItself, ListenerLacks, ListenerOutsideGroup, Muted, MutedItself, NoHearer, NoSpeaker, OnlyLoopback, OutsideGroup, SpeakerLacks, SpeakerLacksAtListener, Suppressed, Uncovered, Unset, closed_below, cut_of, last_along, last_place, reason, way_from}
+use Rattle.mum_route.proofs.Public.{talk}
 
 -- what takes a permission away from a session in a channel
 pub taken : List Edit → ℕ → ℕ → Perm → Option Cut

@@ -1,28 +1,5 @@
 -- Where aims stop on their ways to a session, and the first way that stops just there.
-use Rattle.std.proofs.Common.{◌≡◌, ◌∙◌, ℕ, zero, suc, ◌+◌, ◌<◌, ◌&&◌, Bool, true, false, not, cond, eqb, List, [], ◌∷◌, Option, Some, None, refl, sym, ap, subst, arith}
-use Rattle.std.specs.Prelude.{find}
-use Rattle.std.specs.List.{Contains, slice_get}
-use Rattle.std.specs.Option.{option_map, option_or}
-use Rattle.std.proofs.lemmas.Bool.{eq-eqb, eqb-true, false≢true}
-use Rattle.std.proofs.lemmas.Option.{none-some, same_Some}
-use Rattle.mum_base.specs.declared.number.ChannelId.{ChannelId}
-use Rattle.mum_base.specs.declared.number.SessionId.{SessionId}
-use Rattle.mum_base.specs.declared.perm.TheConstants.Perm.{LISTEN}
-use Rattle.mum_tree.proofs.Find.{contains_later}
-use Rattle.mum_tree.proofs.Joined.{contains_filtered}
-use Rattle.mum_tree.proofs.Upward.{none_contained}
-use Rattle.mum_users.specs.declared.listening.ListenerPair.{ListenerPair}
-use Rattle.mum_users.specs.declared.user.User.{User}
-use Rattle.mum_users.specs.Listeners.{pairs_of}
-use Rattle.mum_users.specs.State.{is_of_session}
-use Rattle.mum_state.specs.State.{StateValue}
-use Rattle.mum_state.proofs.Each.{shown}
-use Rattle.mum_route.specs.Hearing.{is_in_group, may}
-use Rattle.mum_route.proofs.Relations.{kept_from}
-use Rattle.mum_why.specs.declared.stop.Stop.{Stop}
-use Rattle.mum_why.specs.declared.stop.Stop.TheVariants.{Arrives, Elsewhere, LacksListen, LacksPermission, NoMember}
-use Rattle.mum_why.specs.Reason.{Aimed, channel_where, level, spreads_over, stop_of, stops, way_from}
-use Rattle.mum_why.specs.ReasonLaws.{IsListened}
+use Rattle.mum_why.proofs.Common.{◌≡◌, ◌∙◌, ℕ, zero, suc, ◌+◌, ◌<◌, ◌&&◌, Bool, true, false, not, cond, eqb, List, [], ◌∷◌, Option, Some, None, refl, sym, ap, subst, arith, find, Contains, slice_get, option_map, option_or, eq-eqb, eqb-true, false≢true, none-some, same_Some, ChannelId, SessionId, LISTEN, contains_later, contains_filtered, none_contained, ListenerPair, User, pairs_of, is_of_session, StateValue, shown, is_in_group, may, kept_from, Stop, Arrives, Elsewhere, LacksListen, LacksPermission, NoMember, Aimed, channel_where, level, spreads_over, stop_of, stops, way_from, IsListened}
 
 -- ---- one stop
 

@@ -1,27 +1,9 @@
 -- One entry more, and one channel more, of a walk that looks for a cut.
-use Rattle.std.proofs.Common.{◌≡◌, ℕ, zero, suc, ◌+◌, ◌<◌, ◌≤◌, ◌==◌, ◌||◌, Bool, true, false, cond, not, List, [], ◌∷◌, ◌++◌, length, get_or, take, drop, refl, sym, ap, ◌∙◌, drop-cons, arith, inl, inr, Option, Some, None, append_assoc, append-nil}
-use Rattle.std.specs.List.{filter, list_any}
-use Rattle.std.specs.Option.{option_map, option_or}
-use Rattle.std.proofs.Math.ListN.{drop_of_length-le}
-use Rattle.std.proofs.lemmas.Bool.{cases_lt, eq-eqb, false≢true, ne_eqb}
-use Rattle.std.proofs.lemmas.List.{drop_more, get_or_default, take_all, take_more}
-use Rattle.std.proofs.lemmas.List.Elements.{filter-append}
-use Rattle.mum_base.specs.declared.number.ChannelId.{ChannelId}
-use Rattle.mum_base.specs.declared.perm.TheConstants.Perm.{TRAVERSE, WRITE}
-use Rattle.mum_policy.specs.declared.policy.AclEntry.{AclEntry}
-use Rattle.mum_policy.specs.declared.policy.ChannelPolicy.{ChannelPolicy}
-use Rattle.mum_policy.specs.Laws.{entries_of, held_after, matching, matching_at, passes, starts_over}
-use Rattle.mum_policy.specs.Member.{Actor, PolicyMap}
-use Rattle.mum_policy.specs.Walk.{is_asked, is_root, marked, matches, on_root}
-use Rattle.mum_policy.proofs.Decisions.{held_after-append, held_after-one}
-use Rattle.mum_why.specs.declared.walk.Passed.{Passed}
-use Rattle.mum_why.specs.declared.walk.Progress.{Progress}
-use Rattle.mum_why.specs.Cut.{closed_below, decides, last_along, last_in, last_place}
-use Rattle.mum_why.specs.Passed.{passed, progressed}
+use Rattle.mum_why.proofs.Common.{◌≡◌, ℕ, zero, suc, ◌+◌, ◌<◌, ◌≤◌, ◌==◌, ◌||◌, Bool, true, false, cond, not, List, [], ◌∷◌, ◌++◌, length, get_or, take, drop, refl, sym, ap, ◌∙◌, drop-cons, arith, inl, inr, Option, Some, None, append_assoc, append-nil, filter, list_any, option_map, option_or, drop_of_length-le, cases_lt, eq-eqb, false≢true, ne_eqb, drop_more, get_or_default, take_all, take_more, filter-append, ChannelId, TRAVERSE, WRITE, AclEntry, ChannelPolicy, entries_of, held_after, matching, matching_at, passes, starts_over, Actor, PolicyMap, is_asked, is_root, marked, matches, on_root, held_after-append, held_after-one, Passed, Progress, closed_below, decides, last_along, last_in, last_place, passed, progressed}
 
 -- ---- entries
 
--- the last place, where one element more is behind
+-- the last place, where one element more is after
 pub last_place-snoc : {X : Type 0} (p : X → Bool) (xs : List X) (x : X) → last_place p (xs ++ x ∷ []) ≡ cond (p x) (Some (length xs)) (last_place p xs)
 unfolding last_place
 last_place-snoc p [] x = refl
@@ -38,7 +20,7 @@ last_place-snoc {X} p (y ∷ ys) x =
 so_far : (entries : List AclEntry) (i : ℕ) (entry : AclEntry) → i < length entries → entry ≡ get_or entries i entry → take (i + 1) entries ≡ take i entries ++ entry ∷ []
 so_far entries i entry within is = take_more entries i entry within ∙ ap (λ (e : AclEntry). take i entries ++ e ∷ []) (sym is)
 
--- what is said of the marks and of the last place when an entry is behind
+-- what is said of the marks and of the last place when an entry is after
 marks_one : (matches_ : AclEntry → Bool) (permission : ℕ) (before : Bool) (entries : List AclEntry) (entry : AclEntry) (b : Bool) → matches_ entry ≡ b
     → held_after permission before (filter matches_ (entries ++ entry ∷ []))
     ≡ cond b (marked (held_after permission before (filter matches_ entries)) entry permission) (held_after permission before (filter matches_ entries))
@@ -132,7 +114,7 @@ asked_at path place d lt =
       | inr last ↦ ap is_asked (drop_of_length-le path last) ∙ sym (eq-eqb (place + 1) (length path) (omega arith))
     ]
 
--- the entries that match, where one channel more is behind
+-- the entries that match, where one channel more is after
 pub matching-snoc : (policies : PolicyMap) (path : List ChannelId) (who : Actor) (place at : ℕ) (channels : List ChannelId) (channel : ChannelId) → at ≡ place + length channels
     → matching policies path who place (channels ++ channel ∷ []) ≡ matching policies path who place channels ++ matching_at policies path who at channel
 unfolding matching

@@ -1,9 +1,7 @@
 -- What the code's aims say.
 use Rattle.std.specs.Prelude.{◌≡◌, ◌&&◌, List, IfSome, IsTrue}
 use Rattle.mum_base.specs.declared.number.ChannelId.{ChannelId}
-use Rattle.mum_tree.specs.Rows.{is_there}
-use Rattle.mum_tree.specs.State.{TreeState}
-use Rattle.mum_tree.specs.Walks.{linked}
+use Rattle.mum_tree.specs.{Rows.is_there, State.TreeState, Walks.linked}
 use Rattle.mum_why.specs.declared.aim.Aim.{Aim}
 use Rattle.mum_why.specs.Reason.{Aimed}
 

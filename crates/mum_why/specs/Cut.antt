@@ -1,10 +1,7 @@
 -- Why a session lacks a permission in a channel: what the walk over the access control lists says of it.
 use Rattle.std.specs.Prelude.{ℕ, suc, ◌+◌, ◌&&◌, Bool, not, List, [], ◌∷◌, ◌++◌, Option, Some, None, if◌then◌else◌}
-use Rattle.std.specs.List.{list_any}
-use Rattle.std.specs.Option.{option_map, option_map_or, option_or}
-use Rattle.mum_base.specs.declared.number.ChannelId.{ChannelId}
-use Rattle.mum_base.specs.declared.number.SessionId.{SessionId}
-use Rattle.mum_base.specs.declared.perm.Perm.{Perm}
+use Rattle.std.specs.{List.list_any, Option.option_map, Option.option_map_or, Option.option_or}
+use Rattle.mum_base.specs.declared.{number.ChannelId.ChannelId, number.SessionId.SessionId, perm.Perm.Perm}
 use Rattle.mum_base.specs.declared.perm.TheConstants.Perm.{ROOT_ONLY}
 use Rattle.mum_policy.specs.declared.policy.AclEntry.{AclEntry}
 use Rattle.mum_policy.specs.Laws.{entries_of, is_super_user, names_permission, passes, starts_over}
@@ -12,8 +9,7 @@ use Rattle.mum_policy.specs.Member.{Actor, PolicyMap}
 use Rattle.mum_policy.specs.Walk.{applies, holds, is_asked, matches, on_root}
 use Rattle.mum_tree.specs.Rows.{path}
 use Rattle.mum_users.specs.declared.user.User.{User}
-use Rattle.mum_state.specs.Permissions.{actor_from, actor_in}
-use Rattle.mum_state.specs.State.{StateValue, policy_of}
+use Rattle.mum_state.specs.{Permissions.actor_from, Permissions.actor_in, State.StateValue, State.policy_of}
 use Rattle.mum_route.specs.Hearing.{may}
 use Rattle.mum_why.specs.declared.cut.Cut.{Cut}
 use Rattle.mum_why.specs.declared.cut.Cut.TheVariants.{Closed, Denied, NeverGiven, RootOnly, SuperUser}
@@ -50,7 +46,8 @@ last_along policies path who permission place (channel ∷ below) =
 unfoldable pub closed_below : PolicyMap → List ChannelId → Actor → List ChannelId → List ChannelId → Option ChannelId
 closed_below policies path who above [] = None
 closed_below policies path who above (channel ∷ below) =
-    if passes policies path who (above ++ channel ∷ []) then closed_below policies path who (above ++ channel ∷ []) below
+    if passes policies path who (above ++ channel ∷ []) then closed_below policies path who
+    (above ++ channel ∷ []) below
     else Some channel
 
 -- ---- what takes a permission away
@@ -65,7 +62,8 @@ abbrev pub cut : PolicyMap → List ChannelId → Actor → ℕ → Cut
 cut policies path who permission =
     if not (on_root path) && holds ROOT_ONLY.0 permission then RootOnly
     else if is_super_user who then SuperUser
-    else option_map_or Closed (closed_below policies path who [] path) (by_entry (last_along policies path who permission 0 path))
+    else option_map_or Closed (closed_below policies path who [] path)
+    (by_entry (last_along policies path who permission 0 path))
 
 -- what takes it away from a session that is there and lacks it
 abbrev pub cut_at : StateValue → User → ChannelId → Perm → Cut
@@ -76,4 +74,5 @@ cut_at state user channel permission =
 abbrev pub cut_of : StateValue → SessionId → ChannelId → Perm → Option Cut
 cut_of state session channel permission =
     if may state session permission channel then None
-    else option_map (λ who. cut (policy_of state) (path state.tree.channels channel) who permission.0) (actor_in state session channel)
+    else option_map (λ who. cut (policy_of state) (path state.tree.channels channel) who permission.0)
+    (actor_in state session channel)

@@ -4,10 +4,8 @@ use Rattle.std.specs.Option.{option_map, option_or}
 use Rattle.mum_base.specs.declared.number.ChannelId.{ChannelId}
 use Rattle.mum_base.specs.declared.perm.TheConstants.Perm.{TRAVERSE, WRITE}
 use Rattle.mum_policy.specs.declared.policy.AclEntry.{AclEntry}
-use Rattle.mum_policy.specs.Laws.{held_after, matching_at, starts_over}
-use Rattle.mum_policy.specs.Member.{Actor, PolicyMap}
-use Rattle.mum_why.specs.declared.walk.Passed.{Passed}
-use Rattle.mum_why.specs.declared.walk.Progress.{Progress}
+use Rattle.mum_policy.specs.{Laws.held_after, Laws.matching_at, Laws.starts_over, Member.Actor, Member.PolicyMap}
+use Rattle.mum_why.specs.declared.walk.{Passed.Passed, Progress.Progress}
 use Rattle.mum_why.specs.Cut.{last_in, last_place}
 
 -- the marks that these entries leave, those of them that match, and the place of the last that decides the permission

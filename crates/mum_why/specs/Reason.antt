@@ -1,29 +1,19 @@
 -- Why a session does not hear what another says to a target, or how it does.
 use Rattle.std.specs.Prelude.{ℕ, ◌+◌, ◌==◌, ◌&&◌, ◌||◌, Bool, true, false, not, List, [], ◌∷◌, find, length, map, Option, Some, None, is_some, unwrap_or, if◌then◌else◌}
-use Rattle.std.specs.List.{list_any}
-use Rattle.std.specs.Option.{option_map, option_map_or, option_or}
+use Rattle.std.specs.{List.list_any, Option.option_map, Option.option_map_or, Option.option_or}
 use Rattle.mum_base.specs.Channels.{is_among}
-use Rattle.mum_base.specs.declared.number.ChannelId.{ChannelId}
-use Rattle.mum_base.specs.declared.number.SessionId.{SessionId}
-use Rattle.mum_base.specs.declared.perm.Perm.{Perm}
+use Rattle.mum_base.specs.declared.{number.ChannelId.ChannelId, number.SessionId.SessionId, perm.Perm.Perm}
 use Rattle.mum_base.specs.declared.perm.TheConstants.Perm.{LISTEN, SPEAK, WHISPER}
-use Rattle.mum_tree.specs.Rows.{is_there}
-use Rattle.mum_tree.specs.State.{TreeState}
-use Rattle.mum_users.specs.declared.target.TargetItem.{TargetItem}
-use Rattle.mum_users.specs.declared.user.User.{User}
-use Rattle.mum_users.specs.Listeners.{pairs_of}
-use Rattle.mum_users.specs.Sessions.{session_of}
-use Rattle.mum_users.specs.State.{has_number}
+use Rattle.mum_tree.specs.{Rows.is_there, State.TreeState}
+use Rattle.mum_users.specs.declared.{target.TargetItem.TargetItem, user.User.User}
+use Rattle.mum_users.specs.{Listeners.pairs_of, Sessions.session_of, State.has_number}
 use Rattle.mum_state.specs.State.{StateValue}
 use Rattle.mum_route.specs.declared.context.Context.TheVariants.{Talk}
 use Rattle.mum_route.specs.declared.routes.TheConstants.{LOOPBACK, TALK}
-use Rattle.mum_route.specs.Cover.{spread}
-use Rattle.mum_route.specs.Hearing.{is_in_group, may}
-use Rattle.mum_route.specs.Laws.{needed_for}
+use Rattle.mum_route.specs.{Cover.spread, Hearing.is_in_group, Hearing.may, Laws.needed_for}
 use Rattle.mum_route.specs.Route.{context_of, is_named, items_of}
-use Rattle.mum_why.specs.declared.reason.Reason.{Reason}
+use Rattle.mum_why.specs.declared.{reason.Reason.Reason, stop.Stop.Stop}
 use Rattle.mum_why.specs.declared.reason.Reason.TheVariants.{Deaf, DeafenedItself, Heard, ItIsItself, ListenerLacks, ListenerOutsideGroup, Muted, MutedItself, NoHearer, NoSpeaker, OnlyLoopback, OutsideGroup, SpeakerLacks, SpeakerLacksAtListener, Suppressed, Uncovered, Unset}
-use Rattle.mum_why.specs.declared.stop.Stop.{Stop}
 use Rattle.mum_why.specs.declared.stop.Stop.TheVariants.{Arrives, Elsewhere, LacksListen, LacksPermission, NoMember}
 use Rattle.mum_why.specs.Cut.{cut_at, cut_of}
 
@@ -71,7 +61,8 @@ aims_of state own target =
 -- it spreads over the channel, from one that is there
 abbrev pub spreads_over : TreeState → Aimed → ChannelId → Bool
 spreads_over tree aim channel =
-    option_map_or (λ top. is_there tree.channels top && is_among (spread tree aim.links aim.children top) channel) aim.top false
+    option_map_or
+    (λ top. is_there tree.channels top && is_among (spread tree aim.links aim.children top) channel) aim.top false
 
 -- where an aim stops on its way to a session that is in a channel, or listens to it: the first of its tests that fails
 abbrev pub stop_of : StateValue → Aimed → User → Bool → ChannelId → Stop
@@ -100,7 +91,8 @@ stops state aim user listens wanted channel = level (stop_of state aim user list
 abbrev pub channel_where : StateValue → Aimed → User → Bool → Stop → Option ChannelId
 channel_where state aim user listens wanted =
     if listens
-    then option_map (λ pair. pair.channel) (find (λ pair. stops state aim user true wanted pair.channel) (pairs_of state.roster user.session))
+    then option_map (λ pair. pair.channel)
+    (find (λ pair. stops state aim user true wanted pair.channel) (pairs_of state.roster user.session))
     else if stops state aim user false wanted user.channel then Some user.channel
     else None
 
@@ -121,7 +113,8 @@ way_by_listening state aims user wanted = way_from state user true wanted 0 aims
 
 -- an item of the voice target names the session; talk names nobody
 abbrev pub one_names : StateValue → User → ℕ → User → Bool
-one_names state own target user = not (target == TALK) && list_any (λ item. is_named item.sessions user) (items_of state own.session target)
+one_names state own target user =
+    not (target == TALK) && list_any (λ item. is_named item.sessions user) (items_of state own.session target)
 
 -- ---- who is left out where nothing else is in the way
 
@@ -141,15 +134,19 @@ left_out_there state own target aims user =
 -- by what is aimed at the channels to which it listens; the furthest way counts
 abbrev pub left_out_listening : StateValue → User → ℕ → List Aimed → User → Option Reason
 left_out_listening state own target aims user =
-    option_or (option_map (λ way. ListenerLacks way.1 (cut_at state user way.1 LISTEN)) (way_by_listening state aims user LacksListen))
+    option_or (option_map (λ way. ListenerLacks way.1 (cut_at state user way.1 LISTEN))
+    (way_by_listening state aims user LacksListen))
     (option_or (option_map (λ way. ListenerOutsideGroup way.0 way.1) (way_by_listening state aims user NoMember))
-    (option_map (λ way. SpeakerLacksAtListener way.1 (cut_at state own way.1 (needed_for target))) (way_by_listening state aims user LacksPermission)))
+    (option_map (λ way. SpeakerLacksAtListener way.1 (cut_at state own way.1 (needed_for target)))
+    (way_by_listening state aims user LacksPermission)))
 
 -- why these aims do not reach a session
 abbrev pub left_out : StateValue → User → ℕ → List Aimed → User → Reason
 left_out state own target aims user =
     if length aims == 0 then Unset
-    else unwrap_or (option_or (left_out_there state own target aims user) (left_out_listening state own target aims user)) Uncovered
+    else unwrap_or
+    (option_or (left_out_there state own target aims user)
+    (left_out_listening state own target aims user)) Uncovered
 
 -- ---- the reason
 
@@ -177,7 +174,8 @@ by_aims state own target user =
 
 -- of two sessions that are there: the first rule that leaves the hearer out, or the context in which it hears
 abbrev pub reason_between : StateValue → User → ℕ → User → Reason
-reason_between state own target user = unwrap_or (option_or (silence state own) (apart own target user)) (by_aims state own target user)
+reason_between state own target user =
+    unwrap_or (option_or (silence state own) (apart own target user)) (by_aims state own target user)
 
 -- of the speaker, the hearer and the target
 abbrev pub reason : StateValue → SessionId → SessionId → ℕ → Reason

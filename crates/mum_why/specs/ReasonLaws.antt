@@ -1,27 +1,18 @@
 -- What holds of every reason, in words of the route.
 use Rattle.std.specs.Prelude.{◌≡◌, ◌≢◌, ◌↔◌, ℕ, ◌<◌, ◌⊎◌, false, List, [], Some, None, IsTrue}
 use Rattle.std.specs.List.{All, Contains, slice_get}
-use Rattle.mum_base.specs.declared.number.ChannelId.{ChannelId}
-use Rattle.mum_base.specs.declared.number.SessionId.{SessionId}
+use Rattle.mum_base.specs.declared.number.{ChannelId.ChannelId, SessionId.SessionId}
 use Rattle.mum_base.specs.declared.perm.TheConstants.Perm.{LISTEN, SPEAK}
-use Rattle.mum_tree.specs.Rows.{is_there}
-use Rattle.mum_tree.specs.Walks.{linked}
-use Rattle.mum_users.specs.declared.target.TargetItem.{TargetItem}
-use Rattle.mum_users.specs.declared.user.User.{User}
+use Rattle.mum_tree.specs.{Rows.is_there, Walks.linked}
+use Rattle.mum_users.specs.declared.{target.TargetItem.TargetItem, user.User.User}
 use Rattle.mum_users.specs.Sessions.{session_of}
-use Rattle.mum_state.specs.Proper.{IsProper}
-use Rattle.mum_state.specs.State.{StateValue}
-use Rattle.mum_route.specs.declared.context.Context.{Context}
-use Rattle.mum_route.specs.declared.routes.TheConstants.{LOOPBACK, TALK}
-use Rattle.mum_route.specs.Context.{code}
-use Rattle.mum_route.specs.Cover.{cover, spread, talk}
-use Rattle.mum_route.specs.Hearing.{is_in_group}
-use Rattle.mum_route.specs.Laws.{needed_for}
+use Rattle.mum_state.specs.{Proper.IsProper, State.StateValue}
+use Rattle.mum_route.specs.declared.{context.Context.Context, routes.TheConstants.LOOPBACK, routes.TheConstants.TALK}
+use Rattle.mum_route.specs.{Context.code, Cover.cover, Cover.spread, Cover.talk, Hearing.is_in_group, Laws.needed_for}
 use Rattle.mum_route.specs.Route.{items_of, route}
 use Rattle.mum_why.specs.declared.reason.Reason.{Reason}
 use Rattle.mum_why.specs.declared.reason.Reason.TheVariants.{Deaf, DeafenedItself, Heard, ItIsItself, ListenerLacks, ListenerOutsideGroup, Muted, MutedItself, NoHearer, NoSpeaker, OnlyLoopback, OutsideGroup, SpeakerLacks, SpeakerLacksAtListener, Suppressed, Uncovered, Unset}
-use Rattle.mum_why.specs.Cut.{cut_of}
-use Rattle.mum_why.specs.Reason.{reason}
+use Rattle.mum_why.specs.{Cut.cut_of, Reason.reason}
 
 -- ---- reasons and routes
 
@@ -29,8 +20,11 @@ use Rattle.mum_why.specs.Reason.{reason}
 abbrev pub ReasonsAreRoutes : Type 0
 ReasonsAreRoutes =
     (state : StateValue) (speaker hearer : SessionId) (target : ℕ) → IsProper state
-    → ((context : Context) → (reason state speaker hearer target ≡ Heard context) ↔ Contains (route state speaker target) (hearer, code context))
-    × (((context : Context) → reason state speaker hearer target ≢ Heard context) ↔ All (λ member. member.0 ≢ hearer) (route state speaker target))
+    → ((context : Context)
+    → (reason state speaker hearer target ≡ Heard context)
+    ↔ Contains (route state speaker target) (hearer, code context))
+    × (((context : Context) → reason state speaker hearer target ≢ Heard context)
+    ↔ All (λ member. member.0 ≢ hearer) (route state speaker target))
 
 -- ---- words of the route
 
@@ -57,19 +51,22 @@ IsAimedAt state own target channel =
 -- an item of the voice target names the session
 abbrev pub IsNamedBy : StateValue → User → ℕ → User → Type 0
 IsNamedBy state own target user =
-    (target ≢ TALK) × (item : TargetItem) × Contains (items_of state own.session target) item × Contains item.sessions user.session
+    (target ≢ TALK) × (item : TargetItem) × Contains (items_of state own.session target) item
+    × Contains item.sessions user.session
 
 -- talk covers the channel, or an item of the voice target does in whose group the session is there
 abbrev pub IsCoveredFor : StateValue → User → ℕ → User → ChannelId → Type 0
 IsCoveredFor state own target user channel =
     ((target ≡ TALK) × Contains (talk state own) channel)
-    ⊎ ((target ≢ TALK) × (item : TargetItem) × Contains (items_of state own.session target) item × Contains (cover state own item) channel
+    ⊎ ((target ≢ TALK) × (item : TargetItem) × Contains (items_of state own.session target) item
+    × Contains (cover state own item) channel
     × IsTrue (is_in_group state item.group channel user))
 
 -- the item at this place covers the channel, and the session is not in its group there
 abbrev pub IsOutsideOf : StateValue → User → ℕ → User → ℕ → ChannelId → Type 0
 IsOutsideOf state own target user index channel =
-    (target ≢ TALK) × (item : TargetItem) × (slice_get (items_of state own.session target) index ≡ Some item) × Contains (cover state own item) channel
+    (target ≢ TALK) × (item : TargetItem) × (slice_get (items_of state own.session target) index ≡ Some item)
+    × Contains (cover state own item) channel
     × (is_in_group state item.group channel user ≡ false)
 
 abbrev pub IsListened : StateValue → User → ChannelId → Type 0
@@ -80,7 +77,8 @@ IsListened state user channel = Contains state.roster.listeners (record { sessio
 -- both are there, and this holds of them
 abbrev pub OfBoth : StateValue → SessionId → SessionId → (User → User → Type 0) → Type 0
 OfBoth state speaker hearer Holds =
-    (own user : User) × (session_of state.roster speaker ≡ Some own) × (session_of state.roster hearer ≡ Some user) × Holds own user
+    (own user : User) × (session_of state.roster speaker ≡ Some own) × (session_of state.roster hearer ≡ Some user)
+    × Holds own user
 
 abbrev pub ReasonHolds : StateValue → SessionId → SessionId → ℕ → Reason → Type 0
 ReasonHolds state speaker hearer target (Heard context) = Contains (route state speaker target) (hearer, code context)
@@ -90,14 +88,18 @@ ReasonHolds state speaker hearer target Muted = OfBoth state speaker hearer (λ 
 ReasonHolds state speaker hearer target MutedItself = OfBoth state speaker hearer (λ own user. IsTrue own.self_mute)
 ReasonHolds state speaker hearer target (Suppressed cut) =
     OfBoth state speaker hearer (λ own user. IsTrue own.suppress × (cut_of state speaker own.channel SPEAK ≡ cut))
-ReasonHolds state speaker hearer target OnlyLoopback = OfBoth state speaker hearer (λ own user. (target ≡ LOOPBACK) × (speaker ≢ hearer))
-ReasonHolds state speaker hearer target ItIsItself = OfBoth state speaker hearer (λ own user. (target ≢ LOOPBACK) × (speaker ≡ hearer))
+ReasonHolds state speaker hearer target OnlyLoopback =
+    OfBoth state speaker hearer (λ own user. (target ≡ LOOPBACK) × (speaker ≢ hearer))
+ReasonHolds state speaker hearer target ItIsItself =
+    OfBoth state speaker hearer (λ own user. (target ≢ LOOPBACK) × (speaker ≡ hearer))
 ReasonHolds state speaker hearer target Deaf = OfBoth state speaker hearer (λ own user. IsTrue user.deaf)
 ReasonHolds state speaker hearer target DeafenedItself = OfBoth state speaker hearer (λ own user. IsTrue user.self_deaf)
 ReasonHolds state speaker hearer target Unset =
-    OfBoth state speaker hearer (λ own user. (target ≢ TALK) × (target ≢ LOOPBACK) × (items_of state speaker target ≡ []))
+    OfBoth state speaker hearer
+    (λ own user. (target ≢ TALK) × (target ≢ LOOPBACK) × (items_of state speaker target ≡ []))
 ReasonHolds state speaker hearer target (SpeakerLacks channel cut) =
-    OfBoth state speaker hearer (λ own user. (user.channel ≡ channel) × (IsAimedAt state own target channel ⊎ IsNamedBy state own target user)
+    OfBoth state speaker hearer
+    (λ own user. (user.channel ≡ channel) × (IsAimedAt state own target channel ⊎ IsNamedBy state own target user)
     × (cut_of state speaker channel (needed_for target) ≡ Some cut))
 ReasonHolds state speaker hearer target (OutsideGroup index channel) =
     OfBoth state speaker hearer (λ own user. (user.channel ≡ channel) × IsOutsideOf state own target user index channel
@@ -106,13 +108,16 @@ ReasonHolds state speaker hearer target (ListenerLacks channel cut) =
     OfBoth state speaker hearer (λ own user. IsListened state user channel × IsCoveredFor state own target user channel
     × (cut_of state hearer channel LISTEN ≡ Some cut))
 ReasonHolds state speaker hearer target (ListenerOutsideGroup index channel) =
-    OfBoth state speaker hearer (λ own user. IsListened state user channel × IsOutsideOf state own target user index channel
-    × ((earlier : ℕ) (other : ChannelId) → earlier < index → IsListened state user other → ¬ IsOutsideOf state own target user earlier other))
+    OfBoth state speaker hearer
+    (λ own user. IsListened state user channel × IsOutsideOf state own target user index channel
+    × ((earlier : ℕ) (other : ChannelId) → earlier < index → IsListened state user other
+    → ¬ IsOutsideOf state own target user earlier other))
 ReasonHolds state speaker hearer target (SpeakerLacksAtListener channel cut) =
     OfBoth state speaker hearer (λ own user. IsListened state user channel × IsAimedAt state own target channel
     × (cut_of state speaker channel (needed_for target) ≡ Some cut))
 ReasonHolds state speaker hearer target Uncovered =
-    OfBoth state speaker hearer (λ own user. ¬ IsAimedAt state own target user.channel × ¬ IsNamedBy state own target user
+    OfBoth state speaker hearer
+    (λ own user. ¬ IsAimedAt state own target user.channel × ¬ IsNamedBy state own target user
     × ((channel : ChannelId) → IsListened state user channel → ¬ IsAimedAt state own target channel))
 
 abbrev pub ReasonsHold : Type 0

@@ -10,7 +10,7 @@ use mum_state::State;
 use mum_tree::{Scratch, Tree};
 use mum_users::{TargetItem, User};
 
-/// One thing that a packet is aimed at: talk, or an item of a voice target.
+// One thing that a packet is aimed at: talk, or an item of a voice target.
 #[derive(Clone, Copy)]
 pub(crate) struct Aim<'a> {
     pub(crate) speaker: SessionId,
@@ -26,7 +26,7 @@ pub(crate) struct Aim<'a> {
     pub(crate) group: &'a str,
 }
 
-/// The items of a voice target; one that is not set has none.
+// The items of a voice target; one that is not set has none.
 pub(crate) fn items_of(state: &State, session: SessionId, target: u8) -> &[TargetItem]
     ensures { result.now ≡ items_of state.now session target }
 {
@@ -37,7 +37,7 @@ pub(crate) fn items_of(state: &State, session: SessionId, target: u8) -> &[Targe
 }
 
 impl<'a> Aim<'a> {
-    /// Talk, which spreads over links.
+    // Talk, which spreads over links.
     pub(crate) fn talk(own: &User) -> Aim<'static>
         ensures { aimed result ≡ talk_aim own.now }
     {
@@ -51,7 +51,7 @@ impl<'a> Aim<'a> {
         }
     }
 
-    /// An item of a voice target.
+    // An item of a voice target.
     pub(crate) fn item(speaker: SessionId, item: &'a TargetItem) -> Aim<'a>
         ensures { aimed result ≡ item_aim speaker item.now }
     {
@@ -65,7 +65,7 @@ impl<'a> Aim<'a> {
         }
     }
 
-    /// Marks the channels that links lead to from where it spreads, if it spreads over links.
+    // Marks the channels that links lead to from where it spreads, if it spreads over links.
     pub(crate) fn mark_links(&self, tree: &Tree, scratch: &mut Scratch)
         ensures { IsMarked tree.now (aimed self.now) scratch.new }
     {

@@ -71,7 +71,7 @@ fn way_to(tree: &Tree, channel: ChannelId) -> ArrayVec<ChannelId, PATH_LIMIT>
     }
 }
 
-/// What takes a permission away from a session that is there and lacks it in a channel.
+// What takes a permission away from a session that is there and lacks it in a channel.
 pub(crate) fn cut_at<L: Ledger>(
     state: &State,
     user: &User,

@@ -10,7 +10,7 @@ ghost use Rattle.mum_why.specs.Reason.{aims_of, apart, by_aims, lacks_where_it_i
 
 use crate::cut::{Cut, cut_at, cut_for};
 use crate::stop::Stop;
-use crate::ways::{first_way, is_unset, may, one_names};
+use crate::ways::{Case, first_way, is_unset, may, one_names};
 use mum_base::{ChannelId, Perm, SessionId, Steps};
 use mum_route::{Context, LOOPBACK, TALK};
 use mum_state::State;
@@ -84,64 +84,47 @@ fn inside_of(target: u8) -> Context
     }
 }
 
-// Whether a packet is aimed at a session by name, and its speaker may be heard where that is.
-fn is_named_there<L: Ledger>(
-    state: &State,
-    own: &User,
-    target: u8,
-    user: &User,
-    steps: &mut Steps<L>,
-) -> bool
-    ensures { result ≡ (one_names state.now own.now target user.now
-        && may state.now own.now.session (needed_for target) user.now.channel) }
+// Whether the speaker has the permission where the hearer is.
+fn may_there<L: Ledger>(case: &Case<'_>, steps: &mut Steps<L>) -> bool
+    ensures { result ≡ may case.now.state.now case.now.speaker.now.session (needed_for case.now.target)
+        case.now.hearer.now.channel }
 {
-    one_names(state, own, target, user)
-        && may(state, own.session, needed_for(target), user.channel, steps)
+    let permission = needed_for(case.target);
+    may(
+        case.state,
+        case.speaker.session,
+        permission,
+        case.hearer.channel,
+        steps,
+    )
+}
+
+// Whether a packet is aimed at a session by name, and its speaker may be heard where that is.
+fn is_named_there<L: Ledger>(case: &Case<'_>, steps: &mut Steps<L>) -> bool
+    ensures { result ≡ (one_names case.now.state.now case.now.speaker.now case.now.target case.now.hearer.now
+        && may case.now.state.now case.now.speaker.now.session (needed_for case.now.target) case.now.hearer.now.channel) }
+{
+    one_names(case) && may_there(case, steps)
 }
 
 // How the aims of a packet reach a session that can hear, if they do.
 fn context_of<L: Ledger>(
-    state: &State,
-    own: &User,
-    target: u8,
-    user: &User,
+    case: &Case<'_>,
     scratch: &mut Scratch,
     steps: &mut Steps<L>,
 ) -> Option<Context>
-    requires proper { IsProper state.now }
-    requires speaker { IsTrue (is_there state.now.tree.channels own.now.channel) }
-    requires hearer { IsTrue (is_there state.now.tree.channels user.now.channel) }
-    ensures { result ≡ context_of state.now own.now target user.now }
+    requires proper { IsProper case.now.state.now }
+    requires speaker { IsTrue (is_there case.now.state.now.tree.channels case.now.speaker.now.channel) }
+    requires hearer { IsTrue (is_there case.now.state.now.tree.channels case.now.hearer.now.channel) }
+    ensures { result ≡ context_of case.now.state.now case.now.speaker.now case.now.target case.now.hearer.now }
 {
-    if first_way(
-        state,
-        own,
-        target,
-        user,
-        false,
-        Stop::Arrives,
-        scratch,
-        steps,
-    )
-    .is_some()
-    {
-        return Some(inside_of(target));
+    if first_way(case, false, Stop::Arrives, scratch, steps).is_some() {
+        return Some(inside_of(case.target));
     }
-    if is_named_there(state, own, target, user, steps) {
+    if is_named_there(case, steps) {
         return Some(Context::DirectWhisper);
     }
-    if first_way(
-        state,
-        own,
-        target,
-        user,
-        true,
-        Stop::Arrives,
-        scratch,
-        steps,
-    )
-    .is_some()
-    {
+    if first_way(case, true, Stop::Arrives, scratch, steps).is_some() {
         return Some(Context::Listener);
     }
     None
@@ -149,58 +132,37 @@ fn context_of<L: Ledger>(
 
 // Whether the speaker lacks the permission where a session is, at which or at whose channel the packet is aimed.
 fn lacks_where_it_is<L: Ledger>(
-    state: &State,
-    own: &User,
-    target: u8,
-    user: &User,
+    case: &Case<'_>,
     scratch: &mut Scratch,
     steps: &mut Steps<L>,
 ) -> bool
-    requires { IsTrue (is_there state.now.tree.channels user.now.channel) }
-    ensures { result ≡ lacks_where_it_is state.now own.now target (aims_of state.now own.now target) user.now }
+    requires { IsTrue (is_there case.now.state.now.tree.channels case.now.hearer.now.channel) }
+    ensures { result ≡ lacks_where_it_is case.now.state.now case.now.speaker.now case.now.target
+        (aims_of case.now.state.now case.now.speaker.now case.now.target) case.now.hearer.now }
 {
-    let lacking = first_way(
-        state,
-        own,
-        target,
-        user,
-        false,
-        Stop::LacksPermission,
-        scratch,
-        steps,
-    );
-    if lacking.is_none() && !one_names(state, own, target, user) {
+    let lacking = first_way(case, false, Stop::LacksPermission, scratch, steps);
+    if lacking.is_none() && !one_names(case) {
         return false;
     }
-    !may(state, own.session, needed_for(target), user.channel, steps)
+    !may_there(case, steps)
 }
 
 // By what is aimed at the channel where a session is, or at the session.
 fn left_out_there<L: Ledger>(
-    state: &State,
-    own: &User,
-    target: u8,
-    user: &User,
+    case: &Case<'_>,
     scratch: &mut Scratch,
     steps: &mut Steps<L>,
 ) -> Option<Reason>
-    requires { IsTrue (is_there state.now.tree.channels user.now.channel) }
-    ensures { result ≡ left_out_there state.now own.now target (aims_of state.now own.now target) user.now }
+    requires { IsTrue (is_there case.now.state.now.tree.channels case.now.hearer.now.channel) }
+    ensures { result ≡ left_out_there case.now.state.now case.now.speaker.now case.now.target
+        (aims_of case.now.state.now case.now.speaker.now case.now.target) case.now.hearer.now }
 {
-    if lacks_where_it_is(state, own, target, user, scratch, steps) {
-        let cut = cut_at(state, own, user.channel, needed_for(target), steps);
-        return Some(Reason::SpeakerLacks(user.channel, cut));
+    if lacks_where_it_is(case, scratch, steps) {
+        let (channel, permission) = (case.hearer.channel, needed_for(case.target));
+        let cut = cut_at(case.state, case.speaker, channel, permission, steps);
+        return Some(Reason::SpeakerLacks(channel, cut));
     }
-    match first_way(
-        state,
-        own,
-        target,
-        user,
-        false,
-        Stop::NoMember,
-        scratch,
-        steps,
-    ) {
+    match first_way(case, false, Stop::NoMember, scratch, steps) {
         Some((place, channel)) => Some(Reason::OutsideGroup(place, channel)),
         None => None,
     }
@@ -208,53 +170,25 @@ fn left_out_there<L: Ledger>(
 
 // By what is aimed at the channels to which a session listens. Of several ways the one that goes furthest counts.
 fn left_out_listening<L: Ledger>(
-    state: &State,
-    own: &User,
-    target: u8,
-    user: &User,
+    case: &Case<'_>,
     scratch: &mut Scratch,
     steps: &mut Steps<L>,
 ) -> Option<Reason>
-    requires { IsTrue (is_there state.now.tree.channels user.now.channel) }
-    ensures { result ≡ left_out_listening state.now own.now target (aims_of state.now own.now target) user.now }
+    requires { IsTrue (is_there case.now.state.now.tree.channels case.now.hearer.now.channel) }
+    ensures { result ≡ left_out_listening case.now.state.now case.now.speaker.now case.now.target
+        (aims_of case.now.state.now case.now.speaker.now case.now.target) case.now.hearer.now }
 {
-    if let Some((_, channel)) = first_way(
-        state,
-        own,
-        target,
-        user,
-        true,
-        Stop::LacksListen,
-        scratch,
-        steps,
-    ) {
-        let cut = cut_at(state, user, channel, Perm::LISTEN, steps);
+    if let Some((_, channel)) = first_way(case, true, Stop::LacksListen, scratch, steps) {
+        let cut = cut_at(case.state, case.hearer, channel, Perm::LISTEN, steps);
         return Some(Reason::ListenerLacks(channel, cut));
     }
-    if let Some((place, channel)) = first_way(
-        state,
-        own,
-        target,
-        user,
-        true,
-        Stop::NoMember,
-        scratch,
-        steps,
-    ) {
+    if let Some((place, channel)) = first_way(case, true, Stop::NoMember, scratch, steps) {
         return Some(Reason::ListenerOutsideGroup(place, channel));
     }
-    match first_way(
-        state,
-        own,
-        target,
-        user,
-        true,
-        Stop::LacksPermission,
-        scratch,
-        steps,
-    ) {
+    match first_way(case, true, Stop::LacksPermission, scratch, steps) {
         Some((_, channel)) => {
-            let cut = cut_at(state, own, channel, needed_for(target), steps);
+            let needed = needed_for(case.target);
+            let cut = cut_at(case.state, case.speaker, channel, needed, steps);
             Some(Reason::SpeakerLacksAtListener(channel, cut))
         }
         None => None,
@@ -262,46 +196,33 @@ fn left_out_listening<L: Ledger>(
 }
 
 // Why the aims of a packet do not reach a session that can hear.
-fn left_out<L: Ledger>(
-    state: &State,
-    own: &User,
-    target: u8,
-    user: &User,
-    scratch: &mut Scratch,
-    steps: &mut Steps<L>,
-) -> Reason
-    requires { IsTrue (is_there state.now.tree.channels user.now.channel) }
-    ensures { result ≡ left_out state.now own.now target (aims_of state.now own.now target) user.now }
+fn left_out<L: Ledger>(case: &Case<'_>, scratch: &mut Scratch, steps: &mut Steps<L>) -> Reason
+    requires { IsTrue (is_there case.now.state.now.tree.channels case.now.hearer.now.channel) }
+    ensures { result ≡ left_out case.now.state.now case.now.speaker.now case.now.target
+        (aims_of case.now.state.now case.now.speaker.now case.now.target) case.now.hearer.now }
 {
-    if is_unset(state, own, target) {
+    if is_unset(case) {
         return Reason::Unset;
     }
-    if let Some(reason) = left_out_there(state, own, target, user, scratch, steps) {
+    if let Some(reason) = left_out_there(case, scratch, steps) {
         return reason;
     }
-    match left_out_listening(state, own, target, user, scratch, steps) {
+    match left_out_listening(case, scratch, steps) {
         Some(reason) => reason,
         None => Reason::Uncovered,
     }
 }
 
 // Why the aims of a packet do not reach a session that can hear, or how they do.
-fn reason_by_aims<L: Ledger>(
-    state: &State,
-    own: &User,
-    target: u8,
-    user: &User,
-    scratch: &mut Scratch,
-    steps: &mut Steps<L>,
-) -> Reason
-    requires proper { IsProper state.now }
-    requires speaker { IsTrue (is_there state.now.tree.channels own.now.channel) }
-    requires hearer { IsTrue (is_there state.now.tree.channels user.now.channel) }
-    ensures { result ≡ by_aims state.now own.now target user.now }
+fn reason_by_aims<L: Ledger>(case: &Case<'_>, scratch: &mut Scratch, steps: &mut Steps<L>) -> Reason
+    requires proper { IsProper case.now.state.now }
+    requires speaker { IsTrue (is_there case.now.state.now.tree.channels case.now.speaker.now.channel) }
+    requires hearer { IsTrue (is_there case.now.state.now.tree.channels case.now.hearer.now.channel) }
+    ensures { result ≡ by_aims case.now.state.now case.now.speaker.now case.now.target case.now.hearer.now }
 {
-    match context_of(state, own, target, user, scratch, steps) {
+    match context_of(case, scratch, steps) {
         Some(context) => Reason::Heard(context),
-        None => left_out(state, own, target, user, scratch, steps),
+        None => left_out(case, scratch, steps),
     }
 }
 
@@ -347,25 +268,18 @@ fn apart(own: &User, target: u8, user: &User) -> Option<Reason>
 }
 
 // The same of two sessions that are there.
-fn reason_between<L: Ledger>(
-    state: &State,
-    own: &User,
-    target: u8,
-    user: &User,
-    scratch: &mut Scratch,
-    steps: &mut Steps<L>,
-) -> Reason
-    requires proper { IsProper state.now }
-    requires speaker { IsTrue (is_there state.now.tree.channels own.now.channel) }
-    requires hearer { IsTrue (is_there state.now.tree.channels user.now.channel) }
-    ensures { result ≡ reason_between state.now own.now target user.now }
+fn reason_between<L: Ledger>(case: &Case<'_>, scratch: &mut Scratch, steps: &mut Steps<L>) -> Reason
+    requires proper { IsProper case.now.state.now }
+    requires speaker { IsTrue (is_there case.now.state.now.tree.channels case.now.speaker.now.channel) }
+    requires hearer { IsTrue (is_there case.now.state.now.tree.channels case.now.hearer.now.channel) }
+    ensures { result ≡ reason_between case.now.state.now case.now.speaker.now case.now.target case.now.hearer.now }
 {
-    if let Some(reason) = silence(state, own, steps) {
+    if let Some(reason) = silence(case.state, case.speaker, steps) {
         return reason;
     }
-    match apart(own, target, user) {
+    match apart(case.speaker, case.target, case.hearer) {
         Some(reason) => reason,
-        None => reason_by_aims(state, own, target, user, scratch, steps),
+        None => reason_by_aims(case, scratch, steps),
     }
 }
 
@@ -389,7 +303,15 @@ pub fn reason_for<L: Ledger>(
         return Reason::NoSpeaker;
     };
     match state.roster().session(hearer) {
-        Some(user) => reason_between(state, own, target, user, scratch, steps),
+        Some(user) => {
+            let case = Case {
+                state,
+                speaker: own,
+                target,
+                hearer: user,
+            };
+            reason_between(&case, scratch, steps)
+        }
         None => Reason::NoHearer,
     }
 }

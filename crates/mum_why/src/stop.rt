@@ -3,7 +3,7 @@
 ghost use Rattle.std.specs.Prelude.{◌≡◌, ◌==◌, ◌<◌};
 ghost use Rattle.mum_why.specs.Reason.{level};
 
-/// Where an aim stops on its way to a session that is in a channel, or listens to it.
+// Where an aim stops on its way to a session that is in a channel, or listens to it.
 #[derive(Clone, Copy)]
 pub(crate) enum Stop {
     /// It does not spread over the channel.
@@ -32,7 +32,7 @@ impl Stop {
         }
     }
 
-    /// Whether this is the wanted one.
+    // Whether this is the wanted one.
     pub(crate) fn is(self, wanted: Stop) -> bool
         ensures { result ≡ (level self == level wanted) }
     {

@@ -32,7 +32,7 @@ pub(crate) struct Progress {
     last: Option<(ChannelId, usize)>,
 }
 
-/// Whether a session is of an account.
+// Whether a session is of an account.
 pub(crate) fn is_of(who: &Who<'_>, account: AccountId) -> bool
     ensures { result ≡ is_account who.now.account account }
 {
@@ -97,24 +97,30 @@ impl Passed {
     }
 }
 
+// A walk: along which path, for whom, and for which permission.
+#[derive(Drop)]
+struct Walk<'a, P> {
+    policies: &'a P,
+    path: &'a [ChannelId],
+    who: &'a Who<'a>,
+    permission: Perm,
+}
+
 // What these entries of the channel at this place leave. A step is an entry.
 fn pass_entries<P: Policies, L: Ledger>(
-    policies: &P,
-    path: &[ChannelId],
-    who: &Who<'_>,
+    walk: &Walk<'_, P>,
     place: usize,
-    permission: Perm,
     entries: &[AclEntry],
     before: Progress,
     steps: &mut Steps<L>,
 ) -> Passed
-    requires { place < length path.now }
-    ensures value { result ≡ passed (matches (P.policy_of policies.now) path.now (actor_of who.now) place)
-        (decides (P.policy_of policies.now) path.now (actor_of who.now) permission.0 place (place + 1 == length path.now))
-        before.traverse before.write entries.now }
+    requires { place < length walk.now.path.now }
+    ensures value { result ≡ passed (matches (P.policy_of walk.now.policies.now) walk.now.path.now (actor_of walk.now.who.now) place)
+        (decides (P.policy_of walk.now.policies.now) walk.now.path.now (actor_of walk.now.who.now) walk.now.permission.0 place
+        (place + 1 == length walk.now.path.now)) before.traverse before.write entries.now }
     ensures steps { steps.new ≡ steps.old + length entries.now }
 {
-    let asked = place + 1 == path.len();
+    let asked = place + 1 == walk.path.len();
     let mut passed = Passed {
         traverse: before.traverse,
         write: before.write,
@@ -122,8 +128,8 @@ fn pass_entries<P: Policies, L: Ledger>(
     };
     'entries: for (index, entry) in entries.iter().enumerate() {
         steps.tick();
-        if matches(policies, path, who, place, entry) {
-            passed = passed.pass(entry, index, asked, permission);
+        if matches(walk.policies, walk.path, walk.who, place, entry) {
+            passed = passed.pass(entry, index, asked, walk.permission);
         }
     }
     passed
@@ -171,26 +177,21 @@ fn later(
 
 // How far a walk has come after the channel at this place.
 fn pass_channel<P: Policies, L: Ledger>(
-    policies: &P,
-    path: &[ChannelId],
-    who: &Who<'_>,
+    walk: &Walk<'_, P>,
     place: usize,
-    permission: Perm,
     channel: ChannelId,
     before: Progress,
     steps: &mut Steps<L>,
 ) -> Progress
-    requires { place < length path.now }
-    ensures { result ≡ progressed (P.policy_of policies.now) path.now (actor_of who.now) permission.0 place
-        (place + 1 == length path.now) channel before }
+    requires { place < length walk.now.path.now }
+    ensures { result ≡ progressed (P.policy_of walk.now.policies.now) walk.now.path.now (actor_of walk.now.who.now)
+        walk.now.permission.0 place (place + 1 == length walk.now.path.now) channel before }
 {
-    let Some(policy) = policies.policy(channel) else {
+    let Some(policy) = walk.policies.policy(channel) else {
         return before;
     };
     let entries = policy.acls.as_slice();
-    let passed = pass_entries(
-        policies, path, who, place, permission, entries, before, steps,
-    );
+    let passed = pass_entries(walk, place, entries, before, steps);
     let kept = before.kept(policy.inherit_acls);
     Progress {
         traverse: passed.traverse,
@@ -209,8 +210,8 @@ fn by_entry(last: Option<(ChannelId, usize)>) -> Cut
     }
 }
 
-/// What takes a permission away from who lacks it in the last channel of the path, is not SuperUser, and is not in
-/// want of a permission of the root elsewhere.
+// What takes a permission away from who lacks it in the last channel of the path, is not SuperUser, and is not in
+// want of a permission of the root elsewhere.
 pub(crate) fn walk_for<P: Policies, L: Ledger>(
     policies: &P,
     path: &[ChannelId],
@@ -222,11 +223,15 @@ pub(crate) fn walk_for<P: Policies, L: Ledger>(
         (closed_below (P.policy_of policies.now) path.now (actor_of who.now) [] path.now)
         (by_entry (last_along (P.policy_of policies.now) path.now (actor_of who.now) permission.0 0 path.now)) }
 {
+    let walk = Walk {
+        policies,
+        path,
+        who,
+        permission,
+    };
     let mut progress = Progress::start();
     'channels: for (place, channel) in path.iter().enumerate() {
-        progress = pass_channel(
-            policies, path, who, place, permission, *channel, progress, steps,
-        );
+        progress = pass_channel(&walk, place, *channel, progress, steps);
         if !progress.goes_on() {
             return Cut::Closed(*channel);
         }

@@ -25,7 +25,16 @@ use mum_tree::{Scratch, Tree};
 use mum_users::{ListenerPair, TargetItem, User};
 use std::sync::ledger::Ledger;
 
-/// Whether a session has a permission in a channel.
+// A packet of a session to a target in a state, and a session that may hear it.
+#[derive(Clone, Copy)]
+pub(crate) struct Case<'a> {
+    pub(crate) state: &'a State,
+    pub(crate) speaker: &'a User,
+    pub(crate) target: u8,
+    pub(crate) hearer: &'a User,
+}
+
+// Whether a session has a permission in a channel.
 pub(crate) fn may<L: Ledger>(
     state: &State,
     session: SessionId,
@@ -117,28 +126,28 @@ fn spreads_over(tree: &Tree, aim: &Aim<'_>, scratch: &Scratch, channel: ChannelI
 
 // Where an aim stops on its way to a session that is in a channel, or listens to it.
 fn stop_of<L: Ledger>(
-    state: &State,
+    case: &Case<'_>,
     aim: &Aim<'_>,
-    user: &User,
     listens: bool,
     channel: ChannelId,
     scratch: &Scratch,
     steps: &mut Steps<L>,
 ) -> Stop
-    requires there { IsTrue (is_there state.now.tree.channels channel) }
-    requires marked { IsMarked state.now.tree (aimed aim.now) scratch.now }
-    ensures { result ≡ stop_of state.now (aimed aim.now) user.now listens channel }
+    requires there { IsTrue (is_there case.now.state.now.tree.channels channel) }
+    requires marked { IsMarked case.now.state.now.tree (aimed aim.now) scratch.now }
+    ensures { result ≡ stop_of case.now.state.now (aimed aim.now) case.now.hearer.now listens channel }
 {
+    let state = case.state;
     if !spreads_over(state.tree(), aim, scratch, channel) {
         return Stop::Elsewhere;
     }
     if !may(state, aim.speaker, aim.permission, channel, steps) {
         return Stop::LacksPermission;
     }
-    if !is_in_group(state, aim.group, channel, user) {
+    if !is_in_group(state, aim.group, channel, case.hearer) {
         return Stop::NoMember;
     }
-    if listens && !may(state, user.session, Perm::LISTEN, channel, steps) {
+    if listens && !may(state, case.hearer.session, Perm::LISTEN, channel, steps) {
         return Stop::LacksListen;
     }
     Stop::Arrives
@@ -146,21 +155,20 @@ fn stop_of<L: Ledger>(
 
 // The first channel to which a session listens in which an aim stops just there.
 fn listened_where<L: Ledger>(
-    state: &State,
+    case: &Case<'_>,
     aim: &Aim<'_>,
-    user: &User,
     pairs: &[ListenerPair],
     wanted: Stop,
     scratch: &Scratch,
     steps: &mut Steps<L>,
 ) -> Option<ChannelId>
-    requires there { All (λ pair. IsTrue (is_there state.now.tree.channels pair.channel)) pairs.now }
-    requires marked { IsMarked state.now.tree (aimed aim.now) scratch.now }
+    requires there { All (λ pair. IsTrue (is_there case.now.state.now.tree.channels pair.channel)) pairs.now }
+    requires marked { IsMarked case.now.state.now.tree (aimed aim.now) scratch.now }
     ensures { result ≡ option_map (λ pair. pair.channel)
-        (find (λ pair. stops state.now (aimed aim.now) user.now true wanted pair.channel) pairs.now) }
+        (find (λ pair. stops case.now.state.now (aimed aim.now) case.now.hearer.now true wanted pair.channel) pairs.now) }
 {
     'pairs: for pair in pairs {
-        if stop_of(state, aim, user, true, pair.channel, scratch, steps).is(wanted) {
+        if stop_of(case, aim, true, pair.channel, scratch, steps).is(wanted) {
             return Some(pair.channel);
         }
     }
@@ -169,24 +177,24 @@ fn listened_where<L: Ledger>(
 
 // The channel of a session, or the first to which it listens, in which an aim stops just there.
 fn channel_where<L: Ledger>(
-    state: &State,
+    case: &Case<'_>,
     aim: &Aim<'_>,
-    user: &User,
     listens: bool,
     wanted: Stop,
     scratch: &mut Scratch,
     steps: &mut Steps<L>,
 ) -> Option<ChannelId>
-    requires { IsTrue (is_there state.now.tree.channels user.now.channel) }
-    ensures { result ≡ channel_where state.now (aimed aim.now) user.now listens wanted }
+    requires { IsTrue (is_there case.now.state.now.tree.channels case.now.hearer.now.channel) }
+    ensures { result ≡ channel_where case.now.state.now (aimed aim.now) case.now.hearer.now listens wanted }
 {
-    aim.mark_links(state.tree(), scratch);
+    let own = case.hearer.channel;
+    aim.mark_links(case.state.tree(), scratch);
     if listens {
-        let pairs = state.roster().pairs_of(user.session);
-        return listened_where(state, aim, user, pairs, wanted, scratch, steps);
+        let pairs = case.state.roster().pairs_of(case.hearer.session);
+        return listened_where(case, aim, pairs, wanted, scratch, steps);
     }
-    if stop_of(state, aim, user, false, user.channel, scratch, steps).is(wanted) {
-        Some(user.channel)
+    if stop_of(case, aim, false, own, scratch, steps).is(wanted) {
+        Some(own)
     } else {
         None
     }
@@ -194,57 +202,45 @@ fn channel_where<L: Ledger>(
 
 // The same over the items of a voice target, with the place of the first that stops there.
 fn first_item<L: Ledger>(
-    state: &State,
-    speaker: SessionId,
+    case: &Case<'_>,
     items: &[TargetItem],
-    user: &User,
     listens: bool,
     wanted: Stop,
     scratch: &mut Scratch,
     steps: &mut Steps<L>,
 ) -> Option<(usize, ChannelId)>
-    requires { IsTrue (is_there state.now.tree.channels user.now.channel) }
-    ensures { result ≡ way_from state.now user.now listens wanted 0 (map (item_aim speaker) items.now) }
+    requires { IsTrue (is_there case.now.state.now.tree.channels case.now.hearer.now.channel) }
+    ensures { result ≡ way_from case.now.state.now case.now.hearer.now listens wanted 0
+        (map (item_aim case.now.speaker.now.session) items.now) }
 {
     'items: for (place, item) in items.iter().enumerate() {
-        let aim = Aim::item(speaker, item);
-        if let Some(channel) = channel_where(state, &aim, user, listens, wanted, scratch, steps) {
+        let aim = Aim::item(case.speaker.session, item);
+        if let Some(channel) = channel_where(case, &aim, listens, wanted, scratch, steps) {
             return Some((place, channel));
         }
     }
     None
 }
 
-/// Of what a packet is aimed at, the first that stops just there on its way to a session, by its place, with the
-/// channel: that of the session, or the first to which it listens.
+// Of what a packet is aimed at, the first that stops just there on its way to a session, by its place, with the
+// channel: that of the session, or the first to which it listens.
 pub(crate) fn first_way<L: Ledger>(
-    state: &State,
-    own: &User,
-    target: u8,
-    user: &User,
+    case: &Case<'_>,
     listens: bool,
     wanted: Stop,
     scratch: &mut Scratch,
     steps: &mut Steps<L>,
 ) -> Option<(usize, ChannelId)>
-    requires { IsTrue (is_there state.now.tree.channels user.now.channel) }
-    ensures { result ≡ way_from state.now user.now listens wanted 0 (aims_of state.now own.now target) }
+    requires { IsTrue (is_there case.now.state.now.tree.channels case.now.hearer.now.channel) }
+    ensures { result ≡ way_from case.now.state.now case.now.hearer.now listens wanted 0
+        (aims_of case.now.state.now case.now.speaker.now case.now.target) }
 {
-    if target != TALK {
-        let items = items_of(state, own.session, target);
-        return first_item(
-            state,
-            own.session,
-            items,
-            user,
-            listens,
-            wanted,
-            scratch,
-            steps,
-        );
+    if case.target != TALK {
+        let items = items_of(case.state, case.speaker.session, case.target);
+        return first_item(case, items, listens, wanted, scratch, steps);
     }
-    let aim = Aim::talk(own);
-    match channel_where(state, &aim, user, listens, wanted, scratch, steps) {
+    let aim = Aim::talk(case.speaker);
+    match channel_where(case, &aim, listens, wanted, scratch, steps) {
         Some(channel) => Some((0, channel)),
         None => None,
     }
@@ -266,16 +262,17 @@ fn one_item_names(items: &[TargetItem], user: &User) -> bool
         .any(|item| is_named(item.sessions.as_slice(), user))
 }
 
-/// Whether a packet is aimed at a session by name.
-pub(crate) fn one_names(state: &State, own: &User, target: u8, user: &User) -> bool
-    ensures { result ≡ one_names state.now own.now target user.now }
+// Whether a packet is aimed at a session by name.
+pub(crate) fn one_names(case: &Case<'_>) -> bool
+    ensures { result ≡ one_names case.now.state.now case.now.speaker.now case.now.target case.now.hearer.now }
 {
-    target != TALK && one_item_names(items_of(state, own.session, target), user)
+    let items = items_of(case.state, case.speaker.session, case.target);
+    case.target != TALK && one_item_names(items, case.hearer)
 }
 
-/// Whether a packet is aimed at nothing, since its voice target is not set.
-pub(crate) fn is_unset(state: &State, own: &User, target: u8) -> bool
-    ensures { result ≡ (length (aims_of state.now own.now target) == 0) }
+// Whether a packet is aimed at nothing, since its voice target is not set.
+pub(crate) fn is_unset(case: &Case<'_>) -> bool
+    ensures { result ≡ (length (aims_of case.now.state.now case.now.speaker.now case.now.target) == 0) }
 {
-    target != TALK && items_of(state, own.session, target).is_empty()
+    case.target != TALK && items_of(case.state, case.speaker.session, case.target).is_empty()
 }

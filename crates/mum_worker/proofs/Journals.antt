@@ -1,13 +1,6 @@
 -- What is noted does not touch the room of a voice entry, and each entry has a line.
-use Rattle.std.proofs.Common.{◌≡◌, ℕ, ◌<◌, List, [], ◌∷◌, ◌++◌, length, Option, Some, None, Ok, arith, refl, subst, sym}
-use Rattle.mum_base.specs.declared.number.Cause.{Cause}
-use Rattle.mum_port.specs.declared.port.Step.{Step}
-use Rattle.mum_record.specs.Journal.{Each, IsWritableEntry}
-use Rattle.mum_record.specs.declared.journal.Marked.{Marked}
-use Rattle.mum_record.specs.declared.journal.WorkerEntry.{WorkerEntry}
+use Rattle.mum_worker.proofs.CommonNames.{◌≡◌, ℕ, ◌<◌, List, [], ◌∷◌, ◌++◌, length, Option, Some, None, Ok, arith, refl, subst, sym, Cause, Step, Each, IsWritableEntry, Marked, WorkerEntry, Parts, packet, RecordFacts, after_close, after_step, without_room}
 use Rattle.mum_record.specs.declared.journal.WorkerEntry.TheVariants as kinds
-use Rattle.mum_voice.specs.Packet.{Parts, packet}
-use Rattle.mum_worker.specs.Record.{RecordFacts, after_close, after_step, without_room}
 
 pub after_close_bare : (connection : ℕ) (closed : Option Cause) (kept : RecordFacts) → without_room (after_close connection closed kept) ≡ after_close connection closed (without_room kept)
 after_close_bare connection None kept = refl

@@ -1,4 +1,7 @@
+mod CommonNames
+pub mod Public
 pub mod Journals
+pub mod Learning
 pub mod Lists
 pub mod Openings
 pub mod Outs

@@ -1,24 +1,5 @@
 -- Whether a journal is kept, and the number of a worker, never change.
-use Rattle.std.proofs.Common.{◌≡◌, ℕ, List, [], ◌∷◌, Option, Some, None, refl, ap, ◌∙◌, inl, inr}
-use Rattle.mum_base.specs.declared.number.Cause.{Cause}
-use Rattle.mum_base.specs.declared.number.SessionId.{SessionId}
-use Rattle.mum_crew.specs.Along.{Along}
-use Rattle.mum_crew.specs.declared.role.Turn.{Turn}
-use Rattle.mum_io.specs.Link.{LinkFacts}
-use Rattle.mum_port.specs.Facts.{PortFacts}
-use Rattle.mum_port.specs.Turn.{RoutesPacket as PortRoutes}
-use Rattle.mum_published.specs.Bell.{Rung, Answer, Comes, Lagging, NoMore}
-use Rattle.mum_published.specs.Facts.{Opening}
-use Rattle.mum_session.specs.declared.action.Action.{Action}
-use Rattle.mum_session.specs.declared.action.Action.TheVariants.{Voice}
-use Rattle.mum_worker.specs.Boxes.{BoxesFacts}
-use Rattle.mum_worker.specs.Facts.{WorkerFacts, intake_of}
-use Rattle.mum_worker.specs.Hearing.{Hears, LagsWhereIts, TakesOrTurns}
-use Rattle.mum_worker.specs.Record.{RecordFacts, after_close}
-use Rattle.mum_worker.specs.Routing.{CommonFacts, RoutesPacket}
-use Rattle.mum_worker.specs.Stepping.{PortSteps, Shares}
-use Rattle.mum_worker.specs.Turning.{Turned}
-use Rattle.mum_worker.specs.declared.intake.Intake.{Intake}
+use Rattle.mum_worker.proofs.CommonNames.{◌≡◌, ℕ, List, [], ◌∷◌, Option, Some, None, refl, ap, ◌∙◌, inl, inr, Cause, SessionId, Along, Turn, LinkFacts, PortFacts, PortRoutes, Rung, Answer, Comes, Lagging, NoMore, Opening, Action, Voice, BoxesFacts, WorkerFacts, intake_of, Hears, LagsWhereIts, TakesOrTurns, RecordFacts, after_close, CommonFacts, RoutesPacket, PortSteps, Shares, Turned, Intake}
 
 closed_journal : (connection : ℕ) (closed : Option Cause) (kept : RecordFacts) → (after_close connection closed kept).journal ≡ kept.journal
 closed_journal connection None kept = refl

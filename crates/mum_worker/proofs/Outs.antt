@@ -1,11 +1,5 @@
 -- New passes of voice boxes.
-use Rattle.std.proofs.Common.{◌≡◌, List, [], ◌∷◌, map, refl, ap}
-use Rattle.std.proofs.lemmas.List.Elements.{All-cons, All-nil}
-use Rattle.std.specs.List.{All}
-use Rattle.mum_outbox.specs.Facts.{QueueFacts, QueueId}
-use Rattle.mum_outbox.specs.Calls.{new_pass}
-use Rattle.mum_worker.specs.Boxes.{queues}
-use Rattle.mum_worker.specs.Opening.{IsUnused, out_queues}
+use Rattle.mum_worker.proofs.CommonNames.{◌≡◌, List, [], ◌∷◌, map, refl, ap, All-cons, All-nil, All, QueueFacts, QueueId, new_pass, queues, IsUnused, out_queues}
 
 -- they are of these boxes
 pub new_queues : (boxes : List QueueFacts) → out_queues (map new_pass boxes) ≡ queues boxes

@@ -1,28 +1,5 @@
 -- Ports keep their passes at boxes that are the same, whatever passes were made of them.
-use Rattle.std.proofs.Common.{◌≡◌, ℕ, List, [], ◌∷◌, ◌++◌, filter, Option, Some, None, refl, sym, ap, subst, ◌∙◌, inl, inr}
-use Rattle.std.specs.Prelude.{slice_get}
-use Rattle.std.specs.List.{All}
-use Rattle.std.specs.Option.{option_map}
-use Rattle.std.proofs.lemmas.List.Elements.{All-cons, All-filter, All-get_or, All-head, All-nil, All-push, All-same, All-set, All-tail, All-weaker}
-use Rattle.std.proofs.lemmas.Option.{get_or_from_slice_get, slice_get-map, slice_get_within}
-use Rattle.std.proofs.Math.ListN.{set}
-use Rattle.mum_base.specs.declared.number.Cause.{Cause}
-use Rattle.mum_base.specs.declared.number.SessionId.{SessionId}
-use Rattle.mum_base.specs.declared.reply.ReplyEnd.{ReplyEnd}
-use Rattle.mum_base.specs.declared.reply.ReplyEnd.TheVariants.{Joined, Decided, Rejected}
-use Rattle.mum_crew.specs.Along.{Along, EachAlong}
-use Rattle.mum_io.specs.Link.{LinkFacts}
-use Rattle.mum_outbox.specs.Facts.{PassFacts, QueueFacts, QueueId}
-use Rattle.mum_port.specs.Facts.{PortFacts, new_port}
-use Rattle.mum_port.specs.Replies.{Answers, Lags, passes_after}
-use Rattle.mum_port.specs.Taking.{IsPosted, IsVoiced}
-use Rattle.mum_port.specs.declared.passes.Passes.{Passes}
-use Rattle.mum_worker.specs.Boxes.{AreSameBoxes, BoxesFacts, ArePassesFor, queues}
-use Rattle.mum_worker.specs.Facts.{stays}
-use Rattle.mum_worker.specs.Hearing.{AnswersFirst, LagsWhereIts, TakesOrTurns}
-use Rattle.mum_worker.specs.Record.{RecordFacts}
-use Rattle.mum_worker.specs.Stepping.{OwnsPasses}
-use Rattle.mum_worker.specs.declared.intake.Intake.{Intake}
+use Rattle.mum_worker.proofs.CommonNames.{◌≡◌, ℕ, List, [], ◌∷◌, ◌++◌, filter, Option, Some, None, refl, sym, ap, subst, ◌∙◌, inl, inr, slice_get, All, option_map, All-cons, All-filter, All-get_or, All-head, All-nil, All-push, All-same, All-set, All-tail, All-weaker, get_or_from_slice_get, slice_get-map, slice_get_within, set, Cause, SessionId, ReplyEnd, Joined, Decided, Rejected, Along, EachAlong, LinkFacts, PassFacts, QueueFacts, QueueId, PortFacts, new_port, Answers, Lags, passes_after, IsPosted, IsVoiced, PassesFacts, AreSameBoxes, BoxesFacts, ArePassesFor, queues, stays, AnswersFirst, LagsWhereIts, TakesOrTurns, RecordFacts, OwnsPasses, Intake}
 
 box_of : (found : Option QueueFacts) (queue : QueueId) → option_map (λ (box : QueueFacts). box.queue) found ≡ Some queue → (box : QueueFacts) × (found ≡ Some box) × (box.queue ≡ queue)
 box_of None queue e = absurd (cc e)
@@ -37,23 +14,23 @@ same_at olds news place new same found =
     ∙ (ap (λ (all : List QueueId). slice_get all place) (sym same)
     ∙ (slice_get-map (λ (box : QueueFacts). box.queue) news place ∙ ap (option_map (λ (box : QueueFacts). box.queue)) found)))
 
-posted_still : (olds news : List QueueFacts) (passes : Option Passes) → queues news ≡ queues olds → IsPosted olds passes → IsPosted news passes
+posted_still : (olds news : List QueueFacts) (passes : Option PassesFacts) → queues news ≡ queues olds → IsPosted olds passes → IsPosted news passes
 posted_still olds news None same posted = tt
 posted_still olds news (Some passes) same posted = λ queue found. let old = same_at olds news passes.slot.0 queue same found in posted old.0 old.1 ∙ old.2
 
-voiced_still : (olds news : List QueueFacts) (passes : Option Passes) → queues news ≡ queues olds → IsVoiced olds passes → IsVoiced news passes
+voiced_still : (olds news : List QueueFacts) (passes : Option PassesFacts) → queues news ≡ queues olds → IsVoiced olds passes → IsVoiced news passes
 voiced_still olds news None same voiced = tt
 voiced_still olds news (Some passes) same voiced = λ queue found. let old = same_at olds news passes.slot.0 queue same found in voiced old.0 old.1 ∙ old.2
 
 -- the passes are of these boxes
-abbrev pub HasPasses : BoxesFacts → Option Passes → Type 0
+abbrev pub HasPasses : BoxesFacts → Option PassesFacts → Type 0
 HasPasses boxes passes = IsPosted boxes.posts passes × IsVoiced boxes.voices passes
 
-pub passes_still : (old new : BoxesFacts) (passes : Option Passes) → AreSameBoxes old new → HasPasses old passes → HasPasses new passes
+pub passes_still : (old new : BoxesFacts) (passes : Option PassesFacts) → AreSameBoxes old new → HasPasses old passes → HasPasses new passes
 passes_still old new passes same has = (posted_still old.posts new.posts passes same.posts has.0, voiced_still old.voices new.voices passes same.voices has.1)
 
 -- so are those that a reply gives
-given_passes : (boxes : BoxesFacts) (end : ReplyEnd) (passes : Option Passes) → ArePassesFor boxes end passes → HasPasses boxes passes
+given_passes : (boxes : BoxesFacts) (end : ReplyEnd) (passes : Option PassesFacts) → ArePassesFor boxes end passes → HasPasses boxes passes
 given_passes boxes (Joined session slot) None is = (tt, tt)
 given_passes boxes (Joined session slot) (Some passes) is = (
   (λ queue found.
@@ -68,7 +45,7 @@ given_passes boxes (Joined session slot) (Some passes) is = (
 given_passes boxes Decided passes is = subst (HasPasses boxes) (sym is) (tt, tt)
 given_passes boxes Rejected passes is = subst (HasPasses boxes) (sym is) (tt, tt)
 
-after_passes : (boxes : BoxesFacts) (end : ReplyEnd) (given passes : Option Passes) → ArePassesFor boxes end given → HasPasses boxes passes → HasPasses boxes (passes_after end given passes)
+after_passes : (boxes : BoxesFacts) (end : ReplyEnd) (given passes : Option PassesFacts) → ArePassesFor boxes end given → HasPasses boxes passes → HasPasses boxes (passes_after end given passes)
 after_passes boxes (Joined session slot) given passes is has = given_passes boxes (Joined session slot) given is
 after_passes boxes Decided given passes is has = has
 after_passes boxes Rejected given passes is has = has
@@ -86,7 +63,7 @@ module _ {L : Type 0} where
 
 module _ {L : Type 0} (facts : L → LinkFacts) where
   -- a port that takes a reply has the passes that it gives, or those that it had
-  pub answers_owned : (boxes : BoxesFacts) (end : ReplyEnd) (wire : List ℕ) (given : Option Passes) (old : PortFacts L) (closed : Option Cause) (new : PortFacts L)
+  pub answers_owned : (boxes : BoxesFacts) (end : ReplyEnd) (wire : List ℕ) (given : Option PassesFacts) (old : PortFacts L) (closed : Option Cause) (new : PortFacts L)
       → ArePassesFor boxes end given → OwnsPasses boxes old → Answers facts end wire given old closed new → OwnsPasses boxes new
   answers_owned boxes end wire given old closed new is has (inl stays) = owned_same boxes old new (ap (λ (p : PortFacts L). p.passes) stays.same) has
   answers_owned boxes end wire given old closed new is has (inr (inl takes)) =
@@ -98,7 +75,7 @@ module _ {L : Type 0} (facts : L → LinkFacts) where
   lags_owned boxes old closed new has (inl stays) = owned_same boxes old new (ap (λ (p : PortFacts L). p.passes) stays.same) has
   lags_owned boxes old closed new has (inr closes) = owned_same boxes old new (ap (λ (p : PortFacts L). p.passes) closes.2.rest) has
 
-  pub answers_all : (boxes : BoxesFacts) (connection : ℕ) (end : ReplyEnd) (wire : List ℕ) (given : Option Passes) (olds : List (PortFacts L)) (closed : Option Cause) (news : List (PortFacts L))
+  pub answers_all : (boxes : BoxesFacts) (connection : ℕ) (end : ReplyEnd) (wire : List ℕ) (given : Option PassesFacts) (olds : List (PortFacts L)) (closed : Option Cause) (news : List (PortFacts L))
       → ArePassesFor boxes end given → All (OwnsPasses boxes) olds → AnswersFirst facts connection end wire given olds closed news → All (OwnsPasses boxes) news
   answers_all boxes connection end wire given olds closed news is all (inl none) = All-same (OwnsPasses boxes) news olds none.same all
   answers_all boxes connection end wire given olds closed news is all (inr first) =

@@ -1,17 +1,5 @@
 -- A box of which a pass was made is the same box, and has one number less.
-use Rattle.std.proofs.Common.{◌≡◌, ℕ, ◌+◌, zero, suc, List, [], ◌∷◌, get_or, refl, ap, ◌∙◌, subst, sym, arith}
-use Rattle.std.specs.List.{AllZip}
-use Rattle.std.specs.Prelude.{Some, slice_get}
-use Rattle.std.proofs.lemmas.Option.{get_or_from_slice_get}
-use Rattle.std.proofs.Math.ListN.{set}
-use Rattle.mum_base.specs.declared.number.Slot.{Slot}
-use Rattle.mum_outbox.specs.Facts.{PassFacts, QueueFacts, QueueId}
-use Rattle.mum_outbox.specs.declared.parcel.PostParcel.{PostParcel}
-use Rattle.mum_outbox.specs.declared.parcel.VoiceParcel.{VoiceParcel}
-use Rattle.mum_outbox.specs.Calls.{HasNumbers, IsNewPass}
-use Rattle.mum_outbox.specs.Rule.{after_least}
-use Rattle.mum_outbox.proofs.Giving.{has_fewer, one_less, pass_below}
-use Rattle.mum_worker.specs.Boxes.{AreNewPasses, AreSameBoxes, BoxesFacts, CanPass, GaveOne, GivesPass, queues}
+use Rattle.mum_worker.proofs.CommonNames.{◌≡◌, ℕ, ◌+◌, zero, suc, List, [], ◌∷◌, get_or, refl, ap, ◌∙◌, subst, sym, arith, AllZip, Some, None, slice_get, get_or_from_slice_get, set, Slot, PassFacts, QueueFacts, QueueId, PostFacts, VoiceFacts, HasNumbers, IsNewPass, after_least, has_fewer, one_less, pass_below, AreNewPasses, AreSameBoxes, BoxesFacts, CanPass, GaveOne, GivesPass, queues}
 
 queues_set : (boxes : List QueueFacts) (place : ℕ) (new old : QueueFacts) → old ≡ get_or boxes place old → new.queue ≡ old.queue → queues (set boxes place new) ≡ queues boxes
 queues_set [] zero new old read same = refl
@@ -50,10 +38,11 @@ gives_pass boxes place box after pass can read new gave =
       gave = gave_set boxes place after box read gave;
     }
 
-pub passes_given : (old new : BoxesFacts) (slot : Slot) (place : ℕ) (post : PassFacts PostParcel) (voice : PassFacts VoiceParcel) → place ≡ slot.0
-    → GivesPass old.posts place post new.posts → GivesPass old.voices place voice new.voices → AreNewPasses old slot (record { slot = slot; post = post; voice = voice })
+pub passes_given : (old new : BoxesFacts) (slot : Slot) (place : ℕ) (post : PassFacts PostFacts) (voice : PassFacts VoiceFacts) → place ≡ slot.0
+    → GivesPass old.posts place post new.posts → GivesPass old.voices place voice new.voices → AreNewPasses old slot (record { slot = slot; post = post; voice = voice; told = None })
 passes_given old new slot place post voice is posts voices = record {
   slot_is = refl;
+  none_told = refl;
   post_box = posts.box;
   voice_box = voices.box;
   post_there = ap (λ (n : ℕ). slice_get old.posts n) (sym is) ∙ posts.there;
@@ -64,7 +53,7 @@ passes_given old new slot place post voice is posts voices = record {
   voice_number = voices.number;
 }
 
-pub boxes_given : (old new : BoxesFacts) (place : ℕ) (post : PassFacts PostParcel) (voice : PassFacts VoiceParcel)
+pub boxes_given : (old new : BoxesFacts) (place : ℕ) (post : PassFacts PostFacts) (voice : PassFacts VoiceFacts)
     → GivesPass old.posts place post new.posts → GivesPass old.voices place voice new.voices → AreSameBoxes old new
 boxes_given old new place post voice posts voices = record { posts = posts.same; voices = voices.same; post_numbers = posts.gave; voice_numbers = voices.gave }
 

@@ -1,12 +1,5 @@
 -- The entry that a packet of a port asks for.
-use Rattle.std.proofs.Common.{◌≡◌, ◌∙◌, ℕ, Some, subst, sym}
-use Rattle.std.proofs.lemmas.Option.{same_Some}
-use Rattle.mum_base.specs.declared.number.SessionId.{SessionId}
-use Rattle.mum_published.specs.Facts.{Opening}
-use Rattle.mum_router.specs.Picking.{EntryStood}
-use Rattle.mum_voice.specs.Packet.{Parts}
-use Rattle.mum_worker.specs.Facts.{WorkerFacts, speaker_of}
-use Rattle.mum_worker.specs.Opening.{EntryStoodFor}
+use Rattle.mum_worker.proofs.CommonNames.{◌≡◌, ◌∙◌, ℕ, Some, subst, sym, same_Some, SessionId, Opening, EntryStood, Parts, WorkerFacts, speaker_of, EntryStoodFor}
 
 -- it is of the session that is found for the port
 pub stood_for : {L : Type 0} (opening : Opening) (old new : WorkerFacts L) (port : ℕ) (packet : Parts) (speaker : SessionId)

@@ -1,7 +1,6 @@
 -- What a worker took from its bell, as plain data.
 use Rattle.std.specs.Prelude.{◌≡◌, ℕ, List, [], ◌∷◌, ◌++◌, map, Option, Some, None}
-use Rattle.mum_outbox.specs.Calls.{one_more}
-use Rattle.mum_outbox.specs.Facts.{PassFacts, QueueId}
+use Rattle.mum_outbox.specs.{Calls.one_more, Facts.PassFacts, Facts.QueueId}
 use Rattle.mum_outbox.specs.declared.rule.Tagged.{Tagged}
 use Rattle.mum_published.specs.Bell.{Rung, rung}
 use Rattle.mum_published.specs.declared.bell.BellItem.{BellItem}
@@ -19,7 +18,12 @@ new_bell queue = record { queue = queue; taken = []; empty = 0 }
 -- what was taken by a pass
 abbrev pub bell_of : {L N : Type 0} → PassFacts (BellItem L N) → BellFacts L
 bell_of {L} {N} pass =
-    record { queue = pass.queue; taken = map (λ (x : Tagged (BellItem L N)). rung x.item) pass.taken; empty = pass.empty }
+    record {
+      queue = pass.queue;
+      taken = map
+          (λ (x : Tagged (BellItem L N)). rung x.item) pass.taken;
+      empty = pass.empty;
+    }
 
 -- the bell is asked once: what it gave is the last that was taken, or there was nothing, which is counted
 abbrev pub TakesRung : {L : Type 0} → BellFacts L → Option (Rung L) → BellFacts L → Type 0

@@ -2,13 +2,10 @@
 use Rattle.std.specs.Prelude.{ℕ, Bool, true, false, ◌&&◌, ◌==◌, not, List, [], ◌∷◌, option_and_then, position, slice_get, Option}
 use Rattle.mum_base.specs.declared.number.SessionId.{SessionId}
 use Rattle.mum_outbox.specs.Facts.{PassFacts}
-use Rattle.mum_port.specs.Facts.{PortFacts}
-use Rattle.mum_port.specs.Stage.{is_gone}
-use Rattle.mum_port.specs.declared.item.DeskItem.{DeskItem}
 use Rattle.mum_session.specs.Machine.{session_of}
-use Rattle.mum_worker.specs.Bell.{BellFacts}
-use Rattle.mum_worker.specs.Boxes.{BoxesFacts}
-use Rattle.mum_worker.specs.Routing.{CommonFacts}
+use Rattle.mum_port.specs.{Facts.PortFacts, Stage.is_gone}
+use Rattle.mum_port.specs.declared.item.DeskItem.{DeskItem}
+use Rattle.mum_worker.specs.{Bell.BellFacts, Boxes.BoxesFacts, Routing.CommonFacts}
 use Rattle.mum_worker.specs.declared.intake.Intake.{Intake}
 
 -- a worker: its number, its router and record, the boxes of all slots, its bell, its pass of the desk, its ports
@@ -42,7 +39,8 @@ module _ {L : Type 0} where
 
   -- the session of the port at a place, where it is logged in
   abbrev pub session_at : List (PortFacts L) → ℕ → Option SessionId
-  session_at ports place = option_and_then (λ (port : PortFacts L). session_of port.machine.stage) (slice_get ports place)
+  session_at ports place =
+      option_and_then (λ (port : PortFacts L). session_of port.machine.stage) (slice_get ports place)
 
   -- the session of the first port of a connection, where it is logged in
   abbrev pub speaker_of : List (PortFacts L) → ℕ → Option SessionId

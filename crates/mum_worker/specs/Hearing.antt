@@ -1,25 +1,18 @@
 -- What a worker makes of what its bell carries.
 use Rattle.std.specs.Prelude.{◌≡◌, ◌≢◌, ◌⊎◌, ◌<◌, ◌≤◌, ℕ, Bool, true, false, ◌&&◌, nat_lt, IsTrue, List, [], ◌∷◌, ◌++◌, length, position, slice_get, slice_set, Option, Some, None}
-use Rattle.mum_base.specs.declared.number.Cause.{Cause}
-use Rattle.mum_base.specs.declared.number.SessionId.{SessionId}
-use Rattle.mum_base.specs.declared.number.TheConstants.{CONNECTION_LIMIT}
+use Rattle.mum_base.specs.declared.number.{Cause.Cause, SessionId.SessionId, TheConstants.CONNECTION_LIMIT}
 use Rattle.mum_base.specs.declared.reply.ReplyEnd.{ReplyEnd}
-use Rattle.mum_crew.specs.Along.{EachAlong}
 use Rattle.mum_io.specs.Link.{LinkFacts}
-use Rattle.mum_port.specs.Facts.{PortFacts, new_port}
-use Rattle.mum_port.specs.Replies.{Answers, Lags}
-use Rattle.mum_port.specs.declared.passes.Passes.{Passes}
+use Rattle.mum_crew.specs.Along.{EachAlong}
 use Rattle.mum_published.specs.Bell.{Rung, Answer, Comes, Lagging, NoMore}
-use Rattle.mum_published.specs.Calls.{Admitted, Learnt}
-use Rattle.mum_published.specs.Facts.{NoteFacts, ReplyFacts}
-use Rattle.mum_published.specs.Rolls.{is_admitted}
+use Rattle.mum_published.specs.{Calls.Admitted, Calls.Learnt, Facts.NoteFacts, Facts.ReplyFacts, Rolls.is_admitted}
 use Rattle.mum_published.specs.declared.roll.Login.{Login}
-use Rattle.mum_router.specs.Facts.{RouterFacts}
 use Rattle.mum_session.specs.Machine.{session_of}
-use Rattle.mum_worker.specs.Boxes.{AreSameBoxes, BoxesFacts, ArePassesFor}
+use Rattle.mum_router.specs.Facts.{RouterFacts}
+use Rattle.mum_port.specs.{Facts.PortFacts, Facts.new_port, Replies.Answers, Replies.Lags, Passes.PassesFacts}
+use Rattle.mum_worker.specs.{Boxes.AreSameBoxes, Boxes.BoxesFacts, Boxes.ArePassesFor, Intake.worker_of}
 use Rattle.mum_worker.specs.Facts.{WorkerFacts, is_of, intake_of, stays}
 use Rattle.mum_worker.specs.Record.{RecordFacts, after_close, may_take_in, taking_in}
-use Rattle.mum_worker.specs.Intake.{worker_of}
 use Rattle.mum_worker.specs.declared.intake.Intake.{Intake}
 
 -- a note, if one came, is learnt: no later look sees less
@@ -69,7 +62,8 @@ module _ {L : Type 0} where
 
 module _ {L : Type 0} (facts : L → LinkFacts) where
   -- the first port of the connection takes a reply
-  pub record FirstAnswers (connection : ℕ) (end : ReplyEnd) (wire : List ℕ) (passes : Option Passes) (olds : List (PortFacts L)) (closed : Option Cause) (news : List (PortFacts L)) : Type 0 where
+  pub record FirstAnswers (connection : ℕ) (end : ReplyEnd) (wire : List ℕ) (passes : Option PassesFacts)
+      (olds : List (PortFacts L)) (closed : Option Cause) (news : List (PortFacts L)) : Type 0 where
     pub place : ℕ
     pub old : PortFacts L
     pub new : PortFacts L
@@ -79,42 +73,49 @@ module _ {L : Type 0} (facts : L → LinkFacts) where
     pub others : news ≡ slice_set olds place new
 
   -- no port is of the connection, and the reply is dropped
-  pub record NoneAnswers (connection : ℕ) (olds : List (PortFacts L)) (closed : Option Cause) (news : List (PortFacts L)) : Type 0 where
+  pub record NoneAnswers (connection : ℕ) (olds : List (PortFacts L)) (closed : Option Cause)
+      (news : List (PortFacts L)) : Type 0 where
     pub none : position (is_of connection) olds ≡ None
     pub closed_none : closed ≡ None
     pub same : news ≡ olds
 
   -- the first port of the connection takes the reply, or there is none and it is dropped
-  abbrev pub AnswersFirst : ℕ → ReplyEnd → List ℕ → Option Passes → List (PortFacts L) → Option Cause → List (PortFacts L) → Type 0
+  abbrev pub AnswersFirst : ℕ → ReplyEnd → List ℕ → Option PassesFacts → List (PortFacts L) → Option Cause
+      → List (PortFacts L) → Type 0
   AnswersFirst connection end wire passes olds closed news =
       NoneAnswers connection olds closed news ⊎ FirstAnswers connection end wire passes olds closed news
 
   -- a port of the session closes, unless it is closed already
-  pub record LagsPort (session : SessionId) (old : PortFacts L) (before : RecordFacts) (new : PortFacts L) (after : RecordFacts) : Type 0 where
+  pub record LagsPort (session : SessionId) (old : PortFacts L) (before : RecordFacts) (new : PortFacts L)
+      (after : RecordFacts) : Type 0 where
     pub its : session_of old.machine.stage ≡ Some session
     pub closed : Option Cause
     pub lags : Lags facts old closed new
     pub noted : after ≡ after_close old.machine.connection closed before
 
   -- a port of another session, or of none, stays as it is
-  pub record PassesPort (session : SessionId) (old : PortFacts L) (before : RecordFacts) (new : PortFacts L) (after : RecordFacts) : Type 0 where
+  pub record PassesPort (session : SessionId) (old : PortFacts L) (before : RecordFacts) (new : PortFacts L)
+      (after : RecordFacts) : Type 0 where
     pub another : session_of old.machine.stage ≢ Some session
     pub same : new ≡ old
     pub kept_same : after ≡ before
 
   -- under a lag a port of its session closes, and another stays as it is
   abbrev pub LagsWhereIts : SessionId → PortFacts L → RecordFacts → PortFacts L → RecordFacts → Type 0
-  LagsWhereIts session old before new after = PassesPort session old before new after ⊎ LagsPort session old before new after
+  LagsWhereIts session old before new after =
+      PassesPort session old before new after ⊎ LagsPort session old before new after
 
   -- a reply: its note and its roll are learnt first, and then the first port of its connection takes it, with passes
   -- where it gives some. Where it says that a login was accepted, its roll has that login
-  pub record TakesReply (reply : ReplyFacts) (router : RouterFacts) (kept : RecordFacts) (boxes : BoxesFacts) (ports : List (PortFacts L))
-      (router_after : RouterFacts) (kept_after : RecordFacts) (boxes_after : BoxesFacts) (ports_after : List (PortFacts L)) : Type 0 where
+  pub record TakesReply (reply : ReplyFacts) (router : RouterFacts) (kept : RecordFacts) (boxes : BoxesFacts)
+      (ports : List (PortFacts L))
+      (router_after : RouterFacts) (kept_after : RecordFacts) (boxes_after : BoxesFacts)
+      (ports_after : List (PortFacts L)) : Type 0 where
     pub admitted : IsTrue (is_admitted reply.end reply.connection reply.roll)
     pub noted_by : RouterFacts
     pub learns : LearnsGiven reply.note router noted_by
     pub admits : Admits reply.roll noted_by router_after
-    pub passes : Option Passes
+    pub passes : Option PassesFacts
     pub given : ArePassesFor boxes reply.end passes
     pub same : AreSameBoxes boxes boxes_after
     pub closed : Option Cause

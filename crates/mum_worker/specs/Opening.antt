@@ -2,27 +2,24 @@
 use Rattle.std.specs.Prelude.{◌≡◌, ℕ, false, List, [], map, Option, Some}
 use Rattle.std.specs.List.{All}
 use Rattle.mum_base.specs.declared.number.SessionId.{SessionId}
+use Rattle.mum_voice.specs.Packet.{Parts}
 use Rattle.mum_outbox.specs.Calls.{IsNewPass, lower_half, new_pass, upper_half}
 use Rattle.mum_outbox.specs.Facts.{PassFacts as BoxPassFacts, QueueId}
-use Rattle.mum_outbox.specs.declared.parcel.VoiceParcel.{VoiceParcel}
-use Rattle.mum_published.specs.Facts.{Opening, PassFacts}
 use Rattle.mum_route.specs.declared.hearer.Hearer.{Hearer}
-use Rattle.mum_router.specs.Offering.{Outs}
-use Rattle.mum_router.specs.Picking.{EntryStood, Picks}
-use Rattle.mum_router.specs.Routing.{Routes}
+use Rattle.mum_published.specs.Facts.{Opening, PassFacts}
+use Rattle.mum_parcel.specs.Facts.{VoiceFacts}
+use Rattle.mum_router.specs.{Offering.Outs, Picking.EntryStood, Picking.Picks, Routing.Routes}
 use Rattle.mum_router.specs.declared.offering.Routed.{Routed}
-use Rattle.mum_voice.specs.Packet.{Parts}
-use Rattle.mum_worker.specs.Bell.{new_bell}
-use Rattle.mum_worker.specs.Facts.{WorkerFacts, speaker_of}
+use Rattle.mum_worker.specs.{Bell.new_bell, Facts.WorkerFacts, Facts.speaker_of}
 use Rattle.mum_worker.specs.Record.{first_record, without_room}
 use Rattle.mum_worker.specs.declared.worker.Shared.{Shared}
 
 -- the queues of passes of voice boxes
 abbrev pub out_queues : Outs → List QueueId
-out_queues outs = map (λ (out : BoxPassFacts VoiceParcel). out.queue) outs
+out_queues outs = map (λ (out : BoxPassFacts VoiceFacts). out.queue) outs
 
 -- nothing was offered by this pass
-abbrev pub IsUnused : BoxPassFacts VoiceParcel → Type 0
+abbrev pub IsUnused : BoxPassFacts VoiceFacts → Type 0
 IsUnused out = (out.offered ≡ []) × (out.full ≡ 0)
 
 module _ {L N : Type 0} where
@@ -48,21 +45,24 @@ module _ {L : Type 0} where
     pub nothing_put : worker.desk.offered ≡ []
 
   -- one look for a packet of the port's session
-  pub record PicksFor (opening : Opening) (old : WorkerFacts L) (port : ℕ) (packet : Parts) (new : WorkerFacts L) (audience : List Hearer) : Type 0 where
+  pub record PicksFor (opening : Opening) (old : WorkerFacts L) (port : ℕ) (packet : Parts) (new : WorkerFacts L)
+      (audience : List Hearer) : Type 0 where
     pub speaker : SessionId
     pub speaker_is : speaker_of old.ports port ≡ Some speaker
     pub picks : Picks opening old.common.router speaker packet new.common.router audience
     pub rest : new ≡ record old { common = record old.common { router = new.common.router } }
 
   -- one look, and its copies
-  pub record RoutesFor (opening : Opening) (old : WorkerFacts L) (port : ℕ) (packet : Parts) (new : WorkerFacts L) (routed : Routed) : Type 0 where
+  pub record RoutesFor (opening : Opening) (old : WorkerFacts L) (port : ℕ) (packet : Parts) (new : WorkerFacts L)
+      (routed : Routed) : Type 0 where
     pub speaker : SessionId
     pub speaker_is : speaker_of old.ports port ≡ Some speaker
     pub routes : Routes opening old.common.router speaker packet new.common.router routed
     pub rest : new ≡ record old { common = record old.common { router = new.common.router } }
 
-  -- the entry of the port's session and the packet's target stood already at the state that the look saw
-  pub record EntryStoodFor (opening : Opening) (old : WorkerFacts L) (port : ℕ) (packet : Parts) (new : WorkerFacts L) : Type 0 where
+  -- the entry of the port's session and the packet's target was valid already at the state that the look saw
+  pub record EntryStoodFor (opening : Opening) (old : WorkerFacts L) (port : ℕ) (packet : Parts)
+      (new : WorkerFacts L) : Type 0 where
     pub speaker : SessionId
     pub speaker_is : speaker_of old.ports port ≡ Some speaker
     pub stood : EntryStood opening old.common.router speaker packet new.common.router

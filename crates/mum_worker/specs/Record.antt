@@ -1,11 +1,10 @@
 -- What a worker keeps of what it did.
 use Rattle.std.specs.Prelude.{ℕ, ◌+◌, ◌-◌, Bool, true, false, ◌&&◌, ◌||◌, not, min, nat_lt, List, [], ◌∷◌, ◌++◌, Option, Some, None, if◌then◌else◌}
 use Rattle.mum_base.specs.declared.number.Cause.{Cause}
-use Rattle.mum_base.specs.declared.number.Cause.TheVariants as causes
 use Rattle.mum_outbox.specs.declared.rule.TheConstants.{LAST}
+use Rattle.mum_record.specs.declared.journal.{Marked.Marked, WorkerEntry.WorkerEntry}
 use Rattle.mum_port.specs.declared.port.Step.{Step}
-use Rattle.mum_record.specs.declared.journal.Marked.{Marked}
-use Rattle.mum_record.specs.declared.journal.WorkerEntry.{WorkerEntry}
+use Rattle.mum_base.specs.declared.number.Cause.TheVariants as causes
 use Rattle.mum_record.specs.declared.journal.WorkerEntry.TheVariants as kinds
 
 -- what a worker counts and, where a journal is kept, writes down
@@ -21,14 +20,14 @@ pub record RecordFacts : Type 0 where
   pub owed : ℕ
   -- how many parcels were taken for other sessions, as far as that is counted
   pub stale : ℕ
-  -- whether a port closed for want of memory
+  -- whether a port closed because memory ran out
   pub no_memory : Bool
 
 abbrev pub count_of : Bool → ℕ
 count_of false = 0
 count_of true = 1
 
--- nothing was done yet; a journal is of at most so many connections
+-- nothing was done yet; a journal is of at most n connections
 abbrev pub first_record : Option ℕ → RecordFacts
 first_record None =
     record { journal = false; entries = []; has_room = true; left = 0; owed = 0; stale = 0; no_memory = false }
@@ -69,7 +68,8 @@ after_close connection (Some cause) kept = record kept {
 
 -- what the step of a port came to
 abbrev pub after_step : ℕ → Step → RecordFacts → RecordFacts
-after_step connection step kept = after_close connection step.closed (record kept { stale = min (kept.stale + step.stale) LAST })
+after_step connection step kept =
+    after_close connection step.closed (record kept { stale = min (kept.stale + step.stale) LAST })
 
 -- a connection more may be taken in: where a journal is kept, its closing entry has room
 abbrev pub may_take_in : RecordFacts → Bool

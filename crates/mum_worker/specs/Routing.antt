@@ -1,12 +1,11 @@
 -- What a worker makes of a packet.
 use Rattle.std.specs.Prelude.{◌≡◌, ◌⊎◌, ℕ, List, Err, Ok}
 use Rattle.mum_base.specs.declared.number.SessionId.{SessionId}
-use Rattle.mum_published.specs.Facts.{Opening}
-use Rattle.mum_router.specs.Facts.{RouterFacts}
-use Rattle.mum_router.specs.Routing.{Routes}
-use Rattle.mum_router.specs.declared.offering.Routed.{Routed}
 use Rattle.mum_voice.specs.Packet.{Parts, packet}
 use Rattle.mum_voice.specs.declared.fault.BadVoice.{BadVoice}
+use Rattle.mum_published.specs.Facts.{Opening}
+use Rattle.mum_router.specs.{Facts.RouterFacts, Routing.Routes}
+use Rattle.mum_router.specs.declared.offering.Routed.{Routed}
 use Rattle.mum_worker.specs.Record.{RecordFacts, with_voice, without_room}
 
 -- what the ports of a worker have together: its router, and its record without the room of a voice entry
@@ -24,14 +23,16 @@ pub record IsNoPacket (bytes : List ℕ) (router after : RouterFacts) : Type 0 w
   pub same : after ≡ router
 
 -- bytes that are a packet: it is routed once
-pub record RoutesOnce (opening : Opening) (router : RouterFacts) (speaker : SessionId) (bytes : List ℕ) (routed : Routed) (after : RouterFacts) : Type 0 where
+pub record RoutesOnce (opening : Opening) (router : RouterFacts) (speaker : SessionId) (bytes : List ℕ)
+    (routed : Routed) (after : RouterFacts) : Type 0 where
   pub parts : Parts
   pub parsed : packet bytes ≡ Ok parts
   pub routes : Routes opening router speaker parts after routed
 
 -- what a connection says is routed once, where its bytes are a packet, and has its entry where a journal is kept: the
 -- connection, the revision of the look, the bytes as they came, and what became of each copy
-pub record RoutesAndKeeps (opening : Opening) (old : CommonFacts) (connection : ℕ) (speaker : SessionId) (bytes : List ℕ) (new : CommonFacts) : Type 0 where
+pub record RoutesAndKeeps (opening : Opening) (old : CommonFacts) (connection : ℕ) (speaker : SessionId)
+    (bytes : List ℕ) (new : CommonFacts) : Type 0 where
   pub routed : Routed
   pub once : RoutesOnce opening old.router speaker bytes routed new.router
   pub entry : new.kept ≡ with_voice connection routed.revision bytes new.router.marks old.kept

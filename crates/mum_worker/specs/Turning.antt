@@ -1,15 +1,11 @@
 -- A turn of a worker.
 use Rattle.std.specs.Prelude.{◌≡◌, Bool, is_some, Option, if◌then◌else◌}
-use Rattle.mum_crew.specs.Along.{EachAlong}
-use Rattle.mum_crew.specs.declared.role.Turn.{Turn}
-use Rattle.mum_crew.specs.declared.role.Turn.TheVariants.{Worked, Idle, Done}
 use Rattle.mum_io.specs.Link.{LinkFacts}
-use Rattle.mum_published.specs.Bell.{Rung}
-use Rattle.mum_published.specs.Facts.{Opening}
-use Rattle.mum_worker.specs.Bell.{BellFacts, TakesRung}
-use Rattle.mum_worker.specs.Facts.{WorkerFacts, is_done, stays}
-use Rattle.mum_worker.specs.Hearing.{Hears}
-use Rattle.mum_worker.specs.Stepping.{PortSteps, Shares}
+use Rattle.mum_crew.specs.Along.{EachAlong}
+use Rattle.mum_crew.specs.declared.role.Turn.{Turn, TheVariants.Worked, TheVariants.Idle, TheVariants.Done}
+use Rattle.mum_published.specs.{Bell.Rung, Facts.Opening}
+use Rattle.mum_worker.specs.{Bell.BellFacts, Bell.TakesRung, Facts.WorkerFacts, Facts.is_done, Facts.stays}
+use Rattle.mum_worker.specs.{Hearing.Hears, Stepping.PortSteps, Stepping.Shares}
 
 module _ {L : Type 0} where
   -- a worker that is done says so, and another whether it did anything
@@ -30,7 +26,8 @@ module _ {L : Type 0} (facts : L → LinkFacts) where
     pub heard_is : heard ≡ is_some item
 
   -- each port makes its step, in their order, and those that are gone then are let go
-  pub record StepsPorts (opening : Opening) (heard : Bool) (old : WorkerFacts L) (worked : Bool) (new : WorkerFacts L) : Type 0 where
+  pub record StepsPorts (opening : Opening) (heard : Bool) (old : WorkerFacts L) (worked : Bool)
+      (new : WorkerFacts L) : Type 0 where
     pub steps : EachAlong (PortSteps facts opening old.boxes) stays
         old.ports (shares_of old heard) new.ports (shares_of new worked)
     pub rest : new ≡ record old { common = new.common; desk = new.desk; ports = new.ports }

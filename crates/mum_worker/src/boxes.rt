@@ -5,19 +5,21 @@ ghost use Rattle.mum_outbox.specs.Calls.{lower_half, upper_half};
 ghost use Rattle.mum_worker.specs.Boxes.{AreSameBoxes, ArePassesFor, ArePassesIn, CanPass, GivesPass, HasNoPass};
 
 use mum_base::{OutOfMemory, ReplyEnd, Slot};
-use mum_outbox::{BoxPass, PostBox, Queue, VoiceBox};
+use mum_outbox::{BoxPass, Queue};
+use mum_parcel::{PostBox, VoiceBox};
 use mum_port::Passes;
+use mum_published::Naming;
 use std::alloc::Global;
 use std::marker::Model;
 
-/// The boxes of all slots.
+// The boxes of all slots.
 #[derive(Drop)]
-pub(crate) struct Boxes {
-    pub(crate) posts: Vec<PostBox>,
-    pub(crate) voices: Vec<VoiceBox>,
+pub(crate) struct Boxes<N: Naming> {
+    pub(crate) posts: Vec<PostBox<N>>,
+    pub(crate) voices: Vec<VoiceBox<N>>,
 }
 
-impl Model for Boxes {
+impl<N: Naming> Model for Boxes<N> {
     ghost use Rattle.mum_worker.specs.Boxes.{BoxesFacts};
 
     ghost Value = { BoxesFacts };
@@ -69,9 +71,9 @@ fn pass_at<I: Drop, const CAPACITY: usize>(
     queue.pass()
 }
 
-impl Boxes {
+impl<N: Naming> Boxes<N> {
     // Passes of this slot, where it has boxes with numbers for them.
-    fn passes_in(&mut self, slot: Slot) -> Option<Passes>
+    fn passes_in(&mut self, slot: Slot) -> Option<Passes<N>>
         ensures passes { ArePassesIn self.old slot result }
         ensures same { AreSameBoxes self.old self.new }
     {
@@ -81,11 +83,11 @@ impl Boxes {
         }
         let post = pass_at(&mut self.posts, place);
         let voice = pass_at(&mut self.voices, place);
-        Some(Passes { slot, post, voice })
+        Some(Passes::new(slot, post, voice))
     }
 
-    /// The passes that a reply gives.
-    pub(crate) fn passes_for(&mut self, end: ReplyEnd) -> Option<Passes>
+    // The passes that a reply gives.
+    pub(crate) fn passes_for(&mut self, end: ReplyEnd) -> Option<Passes<N>>
         ensures passes { ArePassesFor self.old end result }
         ensures same { AreSameBoxes self.old self.new }
     {

@@ -20,7 +20,7 @@ use std::marker::Model;
 use std::sync::Wait;
 use std::sync::ledger::Ledger;
 
-/// The router of a worker and its record, with the gate that it passes before each packet.
+// The router of a worker and its record, with the gate that it passes before each packet.
 #[derive(Drop)]
 pub(crate) struct Common<G: Gate, N: Naming, R: Wait + Copy> {
     pub(crate) number: u8,
@@ -40,7 +40,7 @@ impl<G: Gate, N: Naming, R: Wait + Copy> Model for Common<G, N, R> {
 }
 
 impl<G: Gate, N: Naming, R: Wait + Copy> Common<G, N, R> {
-    /// One look, for those who hear a packet.
+    // One look, for those who hear a packet.
     pub(crate) fn pick<C: Ledger>(
         &mut self,
         speaker: SessionId,
@@ -57,7 +57,7 @@ impl<G: Gate, N: Naming, R: Wait + Copy> Common<G, N, R> {
         self.router.pick(&rt, speaker, packet, steps)
     }
 
-    /// One look, and the copies of a packet.
+    // One look, and the copies of a packet.
     pub(crate) fn route_packet<C: Ledger>(
         &mut self,
         speaker: SessionId,

@@ -7,7 +7,7 @@ use mum_outbox::{BoxPass, Desk};
 use mum_port::DeskItem;
 use std::marker::Model;
 
-/// The desk with the worker's pass of it. A contract sees the pass.
+// The desk with the worker's pass of it. A contract sees the pass.
 #[derive(Drop)]
 pub(crate) struct DeskEnd {
     pub(crate) desk: Desk<DeskItem>,
@@ -27,7 +27,7 @@ impl Model for DeskEnd {
 }
 
 impl DeskEnd {
-    /// A desk, with a new pass of it.
+    // A desk, with a new pass of it.
     pub(crate) fn new(desk: Desk<DeskItem>) -> DeskEnd
         ensures { IsNewPass desk result }
     {

@@ -10,7 +10,7 @@ use mum_published::{BellItem, Naming};
 use std::marker::Model;
 use std::sync::Wait;
 
-/// A bell with the worker's pass of it. A contract sees which queue it is, and what was taken.
+// A bell with the worker's pass of it. A contract sees which queue it is, and what was taken.
 #[derive(Drop)]
 pub(crate) struct BellEnd<L, N: Naming> {
     bell: Bell<BellItem<L, N>>,
@@ -29,7 +29,7 @@ impl<L, N: Naming> Model for BellEnd<L, N> {
 }
 
 impl<L: Drop, N: Naming> BellEnd<L, N> {
-    /// A bell, with a new pass of it.
+    // A bell, with a new pass of it.
     pub(crate) fn new(bell: Bell<BellItem<L, N>>) -> BellEnd<L, N>
         ensures { result ≡ new_bell bell.queue }
     {
@@ -38,7 +38,7 @@ impl<L: Drop, N: Naming> BellEnd<L, N> {
         BellEnd { bell, pass }
     }
 
-    /// Takes what is next, if anything is there.
+    // Takes what is next, if anything is there.
     pub(crate) fn take<R: Wait>(&mut self, rt: &R) -> Option<BellItem<L, N>>
         ensures { TakesRung self.old (option_map rung result) self.new }
     {

@@ -20,7 +20,7 @@ use mum_router::Router;
 use std::alloc::Global;
 
 // Learns a note, if one came.
-fn learn_given<N: Naming>(router: &mut Router<N>, note: &Option<Note>)
+pub(crate) fn learn_given<N: Naming>(router: &mut Router<N>, note: &Option<Note>)
     requires { ForSome note.now (λ note. note.book ≡ N.opening.book) }
     ensures { LearnsGiven note.now router.old router.new }
 {
@@ -30,14 +30,14 @@ fn learn_given<N: Naming>(router: &mut Router<N>, note: &Option<Note>)
     }
 }
 
-/// A reply: its note and its roll are learnt, and then the first port of its connection takes it.
+// A reply: its note and its roll are learnt, and then the first port of its connection takes it.
 pub(crate) fn take_reply<L: Link, N: Naming>(
     reply: Reply<N>,
     alloc: Global,
     router: &mut Router<N>,
     kept: &mut Record,
-    boxes: &mut Boxes,
-    ports: &mut Ports<L>,
+    boxes: &mut Boxes<N>,
+    ports: &mut Ports<L, N>,
 )
     requires { All (OwnsPasses boxes.old) ports.old }
     ensures takes { TakesReply L.facts reply
@@ -58,15 +58,15 @@ pub(crate) fn take_reply<L: Link, N: Naming>(
     kept.closed(connection, closed);
 }
 
-/// A connection that comes: it is taken in, where it is the worker's next and there is room.
-pub(crate) fn take_connection<L: Link>(
+// A connection that comes: it is taken in, where it is the worker's next and there is room.
+pub(crate) fn take_connection<L: Link, N: Naming>(
     connection: u32,
     link: L,
     alloc: Global,
     intake: &mut Intake,
     kept: &mut Record,
-    boxes: &mut Boxes,
-    ports: &mut Ports<L>,
+    boxes: &mut Boxes<N>,
+    ports: &mut Ports<L, N>,
 )
     requires { All (OwnsPasses boxes.old) ports.old }
     ensures takes { TakesOrTurns intake.old connection link ports.old (without_room kept.old)
@@ -79,13 +79,13 @@ pub(crate) fn take_connection<L: Link>(
     ports.take_in(alloc, intake, connection, link, kept);
 }
 
-/// A session whose connection is to close.
-pub(crate) fn take_lag<L: Link>(
+// A session whose connection is to close.
+pub(crate) fn take_lag<L: Link, N: Naming>(
     session: SessionId,
     alloc: Global,
     kept: &mut Record,
-    boxes: &mut Boxes,
-    ports: &mut Ports<L>,
+    boxes: &mut Boxes<N>,
+    ports: &mut Ports<L, N>,
 )
     requires { All (OwnsPasses boxes.old) ports.old }
     ensures lags { EachAlong (LagsWhereIts L.facts session) stays

@@ -3,7 +3,7 @@
 ghost use Rattle.std.specs.Prelude.{◌≡◌};
 ghost use Rattle.mum_worker.specs.Intake.{first_intake, is_next, worker_of};
 
-/// Which worker it is, of how many, and the last connection that it took in, which is 0 before the first.
+// Which worker it is, of how many, and the last connection that it took in, which is 0 before the first.
 #[derive(Clone, Copy, Debug)]
 pub(crate) struct Intake {
     pub(crate) number: u8,
@@ -19,7 +19,7 @@ fn worker_of(connection: u32, workers: u8) -> u32
 }
 
 impl Intake {
-    /// A worker that took in nothing.
+    // A worker that took in nothing.
     pub(crate) fn new(number: u8, workers: u8) -> Intake
         ensures { result ≡ first_intake number workers }
     {
@@ -30,7 +30,7 @@ impl Intake {
         }
     }
 
-    /// Whether a connection is of this worker, and above the last that it took in.
+    // Whether a connection is of this worker, and above the last that it took in.
     pub(crate) fn is_next(self, connection: u32) -> bool
         ensures { result ≡ is_next self connection }
     {

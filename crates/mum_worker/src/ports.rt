@@ -9,11 +9,12 @@ ghost use Rattle.mum_worker.specs.Hearing.{AnswersFirst, LagsWhereIts, TakesOrTu
 ghost use Rattle.mum_worker.specs.Intake.{is_next};
 ghost use Rattle.mum_worker.specs.Record.{without_room};
 ghost use Rattle.mum_worker.specs.Routing.{bare};
-ghost use Rattle.mum_worker.specs.Stepping.{OwnsPasses, PortSteps};
+ghost use Rattle.mum_worker.specs.Stepping.{MakesStep, OwnsPasses, PortSteps};
 
 use crate::boxes::Boxes;
 use crate::common::Common;
 use crate::desk::DeskEnd;
+use crate::hearing::learn_given;
 use crate::intake::Intake;
 use crate::record::Record;
 use mum_base::{CONNECTION_LIMIT, Cause, Octets, OutOfMemory, ReplyEnd, SessionId};
@@ -26,14 +27,14 @@ use std::collections::VecDeque;
 use std::marker::Model;
 use std::sync::Wait;
 
-/// The ports of a worker, in the order in which they were taken in, with room for as many as connections may
-/// be open at once.
+// The ports of a worker, in the order in which they were taken in, with room for as many as connections may
+// be open at once.
 #[derive(Drop)]
-pub(crate) struct Ports<L: Link> {
-    list: VecDeque<Port<L>>,
+pub(crate) struct Ports<L: Link, N: Naming> {
+    list: VecDeque<Port<L, N>>,
 }
 
-impl<L: Link> Model for Ports<L> {
+impl<L: Link, N: Naming> Model for Ports<L, N> {
     ghost use Rattle.std.specs.Prelude.{◌≤◌, List};
     ghost use Rattle.std.specs.VecDeque.{deque_capacity};
     ghost use Rattle.mum_base.specs.declared.number.TheConstants.{CONNECTION_LIMIT};
@@ -46,8 +47,8 @@ impl<L: Link> Model for Ports<L> {
     ghost invariant = { λ p. CONNECTION_LIMIT ≤ deque_capacity p.list };
 }
 
-// Puts a port back behind the others, unless it is gone.
-fn put_back<L: Link>(list: &mut VecDeque<Port<L>>, port: Port<L>)
+// Puts a port back after the others, unless it is gone.
+fn put_back<L: Link, N: Naming>(list: &mut VecDeque<Port<L, N>>, port: Port<L, N>)
     requires { deque_len list.old < deque_capacity list.old }
     ensures capacity { deque_capacity list.new ≡ deque_capacity list.old }
     ensures items { list.new.items ≡ list.old.items ++ filter stays (port ∷ []) }
@@ -58,18 +59,18 @@ fn put_back<L: Link>(list: &mut VecDeque<Port<L>>, port: Port<L>)
 }
 
 // One port makes its step, and what the step came to is noted.
-fn step_port<L: Link, G: Gate, N: Naming, R: Wait + Copy>(
-    port: &mut Port<L>,
+fn make_step<L: Link, G: Gate, N: Naming, R: Wait + Copy>(
+    port: &mut Port<L, N>,
     rt: &R,
     desk: &mut DeskEnd,
-    boxes: &Boxes,
+    boxes: &Boxes<N>,
     common: &mut Common<G, N, R>,
     buf: &mut [u8],
     worked: bool,
 ) -> bool
     requires owned { OwnsPasses boxes.now port.old }
     requires buffer { 0 < length buf.old }
-    ensures steps { PortSteps L.facts N.opening boxes.now
+    ensures steps { MakesStep L.facts N.opening boxes.now
         port.old (record { common = bare common.old; desk = desk.old; worked = worked })
         port.new (record { common = bare common.new; desk = desk.new; worked = result }) }
     ensures owned { OwnsPasses boxes.now port.new }
@@ -90,8 +91,30 @@ fn step_port<L: Link, G: Gate, N: Naming, R: Wait + Copy>(
     worked || step.worked
 }
 
+// One port makes its step, and what came with the parcels that it took is learnt.
+fn step_port<L: Link, G: Gate, N: Naming, R: Wait + Copy>(
+    port: &mut Port<L, N>,
+    rt: &R,
+    desk: &mut DeskEnd,
+    boxes: &Boxes<N>,
+    common: &mut Common<G, N, R>,
+    buf: &mut [u8],
+    worked: bool,
+) -> bool
+    requires owned { OwnsPasses boxes.now port.old }
+    requires buffer { 0 < length buf.old }
+    ensures steps { PortSteps L.facts N.opening boxes.now
+        port.old (record { common = bare common.old; desk = desk.old; worked = worked })
+        port.new (record { common = bare common.new; desk = desk.new; worked = result }) }
+    ensures owned { OwnsPasses boxes.now port.new }
+{
+    let worked = make_step(port, rt, desk, boxes, common, buf, worked);
+    learn_given(&mut common.router, &port.told());
+    worked
+}
+
 // Whether one was gone before, or this one is.
-fn is_gone_too<L: Link>(gone: bool, port: &Port<L>) -> bool
+fn is_gone_too<L: Link, N: Naming>(gone: bool, port: &Port<L, N>) -> bool
     ensures { result ≡ (gone || not (stays port.now)) }
 {
     gone || port.is_gone()
@@ -100,10 +123,10 @@ fn is_gone_too<L: Link>(gone: bool, port: &Port<L>) -> bool
 // Each port makes its step where it lies, in their order. Answers whether one did anything, or something was
 // heard before, and whether one is gone then.
 fn step_all<L: Link, G: Gate, N: Naming, R: Wait + Copy>(
-    list: &mut VecDeque<Port<L>>,
+    list: &mut VecDeque<Port<L, N>>,
     rt: &R,
     desk: &mut DeskEnd,
-    boxes: &Boxes,
+    boxes: &Boxes<N>,
     common: &mut Common<G, N, R>,
     buf: &mut [u8],
     heard: bool,
@@ -131,7 +154,7 @@ fn step_all<L: Link, G: Gate, N: Naming, R: Wait + Copy>(
 }
 
 // Lets go of the ports that are gone. The others keep their order.
-fn let_go<L: Link>(list: &mut VecDeque<Port<L>>)
+fn let_go<L: Link, N: Naming>(list: &mut VecDeque<Port<L, N>>)
     ensures items { list.new.items ≡ filter stays list.old.items }
     ensures capacity { deque_capacity list.new ≡ deque_capacity list.old }
 {
@@ -141,10 +164,10 @@ fn let_go<L: Link>(list: &mut VecDeque<Port<L>>)
 // Each port makes its step, in their order. One that is gone then is let go. A port is large, and none is moved
 // while all stay.
 fn step_each<L: Link, G: Gate, N: Naming, R: Wait + Copy>(
-    list: &mut VecDeque<Port<L>>,
+    list: &mut VecDeque<Port<L, N>>,
     rt: &R,
     desk: &mut DeskEnd,
-    boxes: &Boxes,
+    boxes: &Boxes<N>,
     common: &mut Common<G, N, R>,
     buf: &mut [u8],
     heard: bool,
@@ -175,7 +198,12 @@ fn turned_away<L: Link>(link: L) -> L
 }
 
 // Closes a port, where it is of this session and open.
-fn lag_port<L: Link>(port: &mut Port<L>, alloc: Global, kept: &mut Record, session: SessionId)
+fn lag_port<L: Link, N: Naming>(
+    port: &mut Port<L, N>,
+    alloc: Global,
+    kept: &mut Record,
+    session: SessionId,
+)
     ensures { LagsWhereIts L.facts session port.old (without_room kept.old)
         port.new (without_room kept.new) }
 {
@@ -190,8 +218,8 @@ fn lag_port<L: Link>(port: &mut Port<L>, alloc: Global, kept: &mut Record, sessi
 }
 
 // Closes each open port of this session.
-fn lag_each<L: Link>(
-    list: &mut VecDeque<Port<L>>,
+fn lag_each<L: Link, N: Naming>(
+    list: &mut VecDeque<Port<L, N>>,
     alloc: Global,
     kept: &mut Record,
     session: SessionId,
@@ -213,14 +241,14 @@ fn lag_each<L: Link>(
 }
 
 // The place of the first port of a connection.
-fn place_of<L: Link>(list: &VecDeque<Port<L>>, connection: u32) -> Option<usize>
+fn place_of<L: Link, N: Naming>(list: &VecDeque<Port<L, N>>, connection: u32) -> Option<usize>
     ensures { result ≡ position (is_of connection) list.now.items }
 {
     list.iter().position(|port| port.connection() == connection)
 }
 
 // The session of the port at this place, where it is logged in.
-fn session_at<L: Link>(list: &VecDeque<Port<L>>, place: usize) -> Option<SessionId>
+fn session_at<L: Link, N: Naming>(list: &VecDeque<Port<L, N>>, place: usize) -> Option<SessionId>
     ensures { result ≡ session_at list.now.items place }
 {
     match list.get(place) {
@@ -230,13 +258,13 @@ fn session_at<L: Link>(list: &VecDeque<Port<L>>, place: usize) -> Option<Session
 }
 
 // The first port of a connection takes a reply. Answers for what it closes, if it does.
-fn answer_first<L: Link>(
-    list: &mut VecDeque<Port<L>>,
+fn answer_first<L: Link, N: Naming>(
+    list: &mut VecDeque<Port<L, N>>,
     alloc: Global,
     connection: u32,
     end: ReplyEnd,
     wire: Octets,
-    passes: Option<Passes>,
+    passes: Option<Passes<N>>,
 ) -> Option<Cause>
     ensures answers { AnswersFirst L.facts connection end wire passes
         list.old.items result list.new.items }
@@ -252,9 +280,9 @@ fn answer_first<L: Link>(
     }
 }
 
-impl<L: Link> Ports<L> {
-    /// No port, with room for all.
-    pub(crate) fn open(alloc: Global) -> Result<Ports<L>, OutOfMemory>
+impl<L: Link, N: Naming> Ports<L, N> {
+    // No port, with room for all.
+    pub(crate) fn open(alloc: Global) -> Result<Ports<L, N>, OutOfMemory>
         ensures { IfOk result (λ ports. ports ≡ []) }
     {
         Ok(Ports {
@@ -268,7 +296,7 @@ impl<L: Link> Ports<L> {
         self.list.is_empty()
     }
 
-    /// The session of the first port of a connection, where it is logged in.
+    // The session of the first port of a connection, where it is logged in.
     pub(crate) fn speaker(&self, connection: u32) -> Option<SessionId>
         ensures { result ≡ speaker_of self.now connection }
     {
@@ -285,8 +313,8 @@ impl<L: Link> Ports<L> {
         intake.is_next(connection) && self.list.len() < CONNECTION_LIMIT && kept.may_take_in()
     }
 
-    /// Takes a connection in, where it is the worker's next, and there is room for it and for its closing entry. Else
-    /// its link is shut.
+    // Takes a connection in, where it is the worker's next, and there is room for it and for its closing entry. Else
+    // its link is shut.
     pub(crate) fn take_in(
         &mut self,
         alloc: Global,
@@ -309,14 +337,14 @@ impl<L: Link> Ports<L> {
         }
     }
 
-    /// The first port of a connection takes a reply. Answers for what it closes, if it does.
+    // The first port of a connection takes a reply. Answers for what it closes, if it does.
     pub(crate) fn answered(
         &mut self,
         alloc: Global,
         connection: u32,
         end: ReplyEnd,
         wire: Octets,
-        passes: Option<Passes>,
+        passes: Option<Passes<N>>,
     ) -> Option<Cause>
         ensures { AnswersFirst L.facts connection end wire passes
             self.old result self.new }
@@ -324,7 +352,7 @@ impl<L: Link> Ports<L> {
         answer_first(&mut self.list, alloc, connection, end, wire, passes)
     }
 
-    /// Closes each open port of a session.
+    // Closes each open port of a session.
     pub(crate) fn lag(&mut self, alloc: Global, kept: &mut Record, session: SessionId)
         ensures { EachAlong (LagsWhereIts L.facts session) stays
             self.old (without_room kept.old) self.new (without_room kept.new) }
@@ -332,13 +360,13 @@ impl<L: Link> Ports<L> {
         lag_each(&mut self.list, alloc, kept, session);
     }
 
-    /// Each port makes its step, in their order. One that is gone then is let go. Answers whether one did
-    /// anything, or something was heard before.
-    pub(crate) fn step<G: Gate, N: Naming, R: Wait + Copy>(
+    // Each port makes its step, in their order. One that is gone then is let go. Answers whether one did
+    // anything, or something was heard before.
+    pub(crate) fn step<G: Gate, R: Wait + Copy>(
         &mut self,
         rt: &R,
         desk: &mut DeskEnd,
-        boxes: &mut Boxes,
+        boxes: &mut Boxes<N>,
         common: &mut Common<G, N, R>,
         buf: &mut [u8],
         heard: bool,

@@ -16,8 +16,8 @@ use std::marker::Model;
 use std::mem::replace;
 use std::sync::Wait;
 
-/// What a worker keeps of what it did. Where a journal is kept, the room of all closing entries that may
-/// still come is kept too.
+// What a worker keeps of what it did. Where a journal is kept, the room of all closing entries that may
+// still come is kept too.
 #[derive(Drop)]
 pub(crate) struct Record {
     journal: bool,
@@ -75,7 +75,7 @@ fn copies_of(alloc: Global, room: &mut Vec<Marked>, marks: &[Marked]) -> Items<M
 }
 
 impl Record {
-    /// Nothing was done yet. A journal is of at most so many connections.
+    // Nothing was done yet. A journal is of at most n connections.
     pub(crate) fn open(alloc: Global, journal: Option<u32>) -> Result<Record, OutOfMemory>
         ensures { IfOk result (λ kept. kept ≡ first_record journal) }
     {
@@ -93,7 +93,7 @@ impl Record {
         })
     }
 
-    /// Takes the room of a voice entry and of its marks, where a journal is kept and the room is not.
+    // Takes the room of a voice entry and of its marks, where a journal is kept and the room is not.
     pub(crate) fn reserve(&mut self) -> Result<(), OutOfMemory>
         ensures room { OnOk result (IsTrue self.new.has_room) }
         ensures same { without_room self.new ≡ without_room self.old }
@@ -106,7 +106,7 @@ impl Record {
         Ok(())
     }
 
-    /// Routes what a connection says, where its bytes are a packet. Its entry is kept, where a journal is.
+    // Routes what a connection says, where its bytes are a packet. Its entry is kept, where a journal is.
     pub(crate) fn route<N: Naming, W: Wait>(
         &mut self,
         rt: &W,
@@ -139,7 +139,7 @@ impl Record {
         });
     }
 
-    /// What a port closed for, if it did.
+    // What a port closed for, if it did.
     pub(crate) fn closed(&mut self, connection: u32, closed: Option<Cause>)
         ensures { self.new ≡ after_close connection closed self.old }
     {
@@ -154,7 +154,7 @@ impl Record {
         }
     }
 
-    /// What the step of a port came to.
+    // What the step of a port came to.
     pub(crate) fn stepped(&mut self, connection: u32, step: Step)
         ensures { self.new ≡ after_step connection step self.old }
     {
@@ -162,35 +162,35 @@ impl Record {
         self.closed(connection, step.closed);
     }
 
-    /// Whether a connection more may be taken in: where a journal is kept, its closing entry has room.
+    // Whether a connection more may be taken in: where a journal is kept, its closing entry has room.
     pub(crate) fn may_take_in(&self) -> bool
         ensures { result ≡ may_take_in self.now }
     {
         !self.journal || 0 < self.left
     }
 
-    /// A connection more is taken in.
+    // A connection more is taken in.
     pub(crate) fn taken_in(&mut self)
         ensures { self.new ≡ taking_in self.old }
     {
         self.left = self.left.saturating_sub(1);
     }
 
-    /// How many parcels were taken for other sessions.
+    // How many parcels were taken for other sessions.
     pub(crate) fn stale(&self) -> u64
         ensures { result ≡ self.now.stale }
     {
         self.stale
     }
 
-    /// Whether a port closed for want of memory.
+    // Whether a port closed because memory ran out.
     pub(crate) fn no_memory(&self) -> bool
         ensures { result ≡ self.now.no_memory }
     {
         self.no_memory
     }
 
-    /// The entries of the journal, in order.
+    // The entries of the journal, in order.
     pub(crate) fn into_entries(self) -> Vec<WorkerEntry>
         ensures entries { result.items ≡ self.entries }
         ensures writable { Each IsWritableEntry result.items }

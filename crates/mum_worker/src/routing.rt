@@ -31,7 +31,7 @@ fn route_counted<N: Naming, W: Wait, L: Ledger>(
     router.route(rt, speaker, packet, &mut steps)
 }
 
-/// Routes bytes once, where they are a packet.
+// Routes bytes once, where they are a packet.
 pub(crate) fn route_bytes<N: Naming, W: Wait>(
     rt: &W,
     router: &mut Router<N>,

@@ -24,7 +24,8 @@ use crate::record::Record;
 use mum_base::{OutOfMemory, SessionId, Steps};
 use mum_crew::{Gate, Turn};
 use mum_io::Link;
-use mum_outbox::{Bell, Desk, PostBox, VoiceBox};
+use mum_outbox::{Bell, Desk};
+use mum_parcel::{PostBox, VoiceBox};
 use mum_port::DeskItem;
 use mum_published::{BellItem, Naming, Pass, Reply};
 use mum_record::WorkerEntry;
@@ -36,10 +37,10 @@ use std::marker::Model;
 use std::sync::Wait;
 use std::sync::ledger::Ledger;
 
-/// How many bytes a port reads at once.
+// How many bytes a port reads at once.
 const READ_LENGTH: usize = 16_384;
 
-/// The number for which the name of the limit stands. This does nothing: its contract is what it is.
+/// The number that the name of the limit stands for. This does nothing: its contract is what it is.
 pub fn limits()
     ensures read { READ_LENGTH ≡ 16384 }
 {}
@@ -52,13 +53,13 @@ pub struct PortId(pub u32);
 /// control owner, and its own bell.
 #[derive(Drop)]
 pub struct Shared<L, N: Naming> {
-    pub voice: Vec<VoiceBox>,
-    pub posts: Vec<PostBox>,
+    pub voice: Vec<VoiceBox<N>>,
+    pub posts: Vec<PostBox<N>>,
     pub desk: Desk<DeskItem>,
     pub bell: Bell<BellItem<L, N>>,
 }
 
-/// What a worker leaves. The counts stand still at their last values.
+/// What a worker leaves. The counts stay at their last values.
 #[derive(Drop)]
 pub struct WorkerEnd {
     /// How many packets were routed.
@@ -71,7 +72,7 @@ pub struct WorkerEnd {
     pub stale: u64,
     /// The entries of its journal, in order; none where no journal was asked for.
     pub entries: Vec<WorkerEntry>,
-    /// Whether a port closed for want of memory.
+    /// Whether a port closed because memory ran out.
     pub no_memory: bool,
 }
 
@@ -82,10 +83,10 @@ pub struct Worker<L: Link, G: Gate, N: Naming, R: Wait + Copy> {
     alloc: Global,
     intake: Intake,
     common: Common<G, N, R>,
-    boxes: Boxes,
+    boxes: Boxes<N>,
     bell: BellEnd<L, N>,
     desk: DeskEnd,
-    ports: Ports<L>,
+    ports: Ports<L, N>,
     buffer: Vec<u8>,
     ended: bool,
 }
@@ -123,9 +124,9 @@ fn read_buffer(alloc: Global) -> Result<Vec<u8>, OutOfMemory>
 }
 
 impl<L: Link, G: Gate, N: Naming, R: Wait + Copy> Worker<L, G, N, R> {
-    /// A worker without ports, of this number among so many, over a pass that made no look. It takes in the connections
+    /// A worker without ports, of this number among n, over a pass that made no look. It takes in the connections
     /// of its number alone, each once, as their numbers rise. Where a journal is asked for, the room of the
-    /// closing entries of so many connections is taken, and no more are taken in. It works over the boxes, the desk
+    /// closing entries of n connections is taken, and no more are taken in. It works over the boxes, the desk
     /// and the bell that it is given, each by new passes.
     pub fn open(
         rt: R,
@@ -298,7 +299,8 @@ impl<L: Link, G: Gate, N: Naming, R: Wait + Copy> Worker<L, G, N, R> {
         requires logged_in { IsSome (speaker_of self.old.ports port.0) }
         requires packet { IsPacket (plain_parts packet.now) }
         ensures picks { PicksFor N.opening self.old port.0 (plain_parts packet.now) self.new result }
-        ensures steps { EntryStoodFor N.opening self.old port.0 (plain_parts packet.now) self.new → steps.new ≡ steps.old }
+        ensures steps { EntryStoodFor N.opening self.old port.0 (plain_parts packet.now) self.new
+            → steps.new ≡ steps.old }
     {
         let Some(speaker) = self.speaker(port) else {
             unreachable!()
@@ -317,7 +319,8 @@ impl<L: Link, G: Gate, N: Naming, R: Wait + Copy> Worker<L, G, N, R> {
         requires logged_in { IsSome (speaker_of self.old.ports port.0) }
         requires packet { IsPacket (plain_parts packet.now) }
         ensures routes { RoutesFor N.opening self.old port.0 (plain_parts packet.now) self.new result }
-        ensures steps { EntryStoodFor N.opening self.old port.0 (plain_parts packet.now) self.new → steps.new ≡ steps.old }
+        ensures steps { EntryStoodFor N.opening self.old port.0 (plain_parts packet.now) self.new
+            → steps.new ≡ steps.old }
     {
         let Some(speaker) = self.speaker(port) else {
             unreachable!()

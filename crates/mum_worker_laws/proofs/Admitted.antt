@@ -1,51 +1,7 @@
 -- Each session that a packet is routed for was given by a login that is on the roll.
-use Rattle.std.proofs.Common.{◌≡◌, ◌==◌, ◌&&◌, ℕ, zero, suc, true, IsTrue, slice_get, List, [], ◌∷◌, All, Option, Some, None, ap, sym, subst, inl, inr}
-use Rattle.std.specs.List.{AllByRecursion as Each, Contains}
-use Rattle.std.specs.Option.{ForSome}
-use Rattle.std.proofs.lemmas.Bool.{eqb-true}
-use Rattle.std.proofs.lemmas.List.Elements.{All-from_recursion, Contains-append_left}
-use Rattle.std.proofs.lemmas.Map.Views.{Contains-from_any}
-use mathlib.Core.List.{IsPrefix}
-use Rattle.mum_base.specs.declared.number.Cause.{Cause}
-use Rattle.mum_base.specs.declared.number.SessionId.{SessionId}
-use Rattle.mum_base.specs.declared.reply.ReplyEnd.{ReplyEnd}
-use Rattle.mum_base.specs.declared.reply.ReplyEnd.TheVariants.{Joined, Decided, Rejected}
-use Rattle.mum_crew.specs.Along.{Along}
-use Rattle.mum_crew.specs.Turns.{TurnsTo}
-use Rattle.mum_crew.specs.declared.role.Turn.{Turn}
-use Rattle.mum_frame.specs.declared.frame.Frame.{Frame}
-use Rattle.mum_io.specs.Link.{LinkFacts}
-use Rattle.mum_port.specs.Did.{action_of, machine_after}
-use Rattle.mum_port.specs.Facts.{PortFacts, new_port}
-use Rattle.mum_port.specs.Replies.{Answers, Lags}
-use Rattle.mum_port.specs.Turn.{RoutesPacket as PortRoutes}
-use Rattle.mum_port.specs.declared.passes.Passes.{Passes}
-use Rattle.mum_port.proofs.Closing.{and-left}
-use Rattle.mum_port.proofs.Idle.{and-right}
-use Rattle.mum_port.proofs.Machines.{connection-after_frame, stage-after_frame}
-use Rattle.mum_published.specs.Bell.{Rung, Answer, Comes, Lagging, NoMore}
-use Rattle.mum_published.specs.Facts.{Opening}
-use Rattle.mum_published.specs.Rolls.{is_admitted, is_on_roll, login}
-use Rattle.mum_published.specs.declared.roll.Login.{Login}
-use Rattle.mum_session.specs.Action.{after_frame}
-use Rattle.mum_session.specs.Machine.{Machine, answered, session_of}
+use Rattle.mum_worker_laws.proofs.Common.{◌≡◌, ◌==◌, ◌&&◌, ℕ, zero, suc, true, IsTrue, slice_get, List, [], ◌∷◌, All, Option, Some, None, ap, sym, subst, inl, inr, Each, Contains, ForSome, eqb-true, All-from_recursion, Contains-append_left, Contains-from_any, IsPrefix, Cause, SessionId, ReplyEnd, Joined, Decided, Rejected, Along, TurnsTo, Turn, Frame, LinkFacts, action_of, machine_after, PortFacts, new_port, Answers, Lags, PortRoutes, PassesFacts, and-left, and-right, connection-after_frame, stage-after_frame, told_by_passes, Rung, Answer, Comes, Lagging, NoMore, Opening, is_admitted, is_on_roll, login, Login, after_frame, Machine, answered, session_of, Action, Voice, BoxesFacts, WorkerFacts, intake_of, stays, AnswersFirst, Hears, LagsWhereIts, TakesOrTurns, HasOpened, RecordFacts, CommonFacts, RoutesPacket, PortSteps, Shares, Turned, WorkerTurned, shares_of, Intake, HasLogin, IsLoggedIn, Look, Moment, Told, Looked, Took, history, login_made, look_asked, look_made, look_stepped, looks_in, moments_along, moments_of, moments_stepped, takes_by, told_by}
 use Rattle.mum_session.specs.declared.session.Stage.{Stage}
-use Rattle.mum_session.specs.declared.action.Action.{Action}
-use Rattle.mum_session.specs.declared.action.Action.TheVariants.{Voice}
-use Rattle.mum_worker.specs.Boxes.{BoxesFacts}
-use Rattle.mum_worker.specs.Facts.{WorkerFacts, intake_of, stays}
-use Rattle.mum_worker.specs.Hearing.{AnswersFirst, Hears, LagsWhereIts, TakesOrTurns}
-use Rattle.mum_worker.specs.Opening.{HasOpened}
-use Rattle.mum_worker.specs.Record.{RecordFacts}
-use Rattle.mum_worker.specs.Routing.{CommonFacts, RoutesPacket}
-use Rattle.mum_worker.specs.Stepping.{PortSteps, Shares}
-use Rattle.mum_worker.specs.Turning.{Turned, WorkerTurned, shares_of}
-use Rattle.mum_worker.specs.declared.intake.Intake.{Intake}
-use Rattle.mum_worker_laws.specs.Laws.{HasLogin, IsLoggedIn, Look, Moment, Told, Looked, history, login_made, look_asked, look_made, look_stepped, looks_along, looks_in, moments_of, told_by}
-use Rattle.mum_worker_laws.proofs.Counts.{each-append, each_left, each_so}
-use Rattle.mum_worker_laws.proofs.Going.{go_along, go_heard, go_turns}
-use Rattle.mum_worker_laws.proofs.Lasting.{first_is_of}
-use Rattle.mum_worker_laws.proofs.Waiting.{each_set}
+use Rattle.mum_worker_laws.proofs.{Counts.each-append, Counts.each_left, Counts.each_so, Going.go_along, Going.go_heard, Going.go_turns, Lasting.first_is_of, Waiting.each_set}
 
 -- ---- the roll
 
@@ -75,9 +31,11 @@ logged_in_longer roll longer front machine has =
 abbrev IsAdmitted : List Login → Moment → Type 0
 IsAdmitted roll (Told reply) = Unit {0}
 IsAdmitted roll (Looked look) = Contains roll (login_made look)
+IsAdmitted roll (Took takes learnt) = Unit {0}
 
 admitted_longer : (roll longer : List Login) → IsPrefix roll longer → (moment : Moment) → IsAdmitted roll moment → IsAdmitted longer moment
 admitted_longer roll longer front (Told reply) is = tt
+admitted_longer roll longer front (Took takes learnt) is = tt
 admitted_longer roll longer front (Looked look) is = on_longer (login_made look) roll longer front is
 
 each_at : {A : Type 0} (P : A → Type 0) (xs : List A) (k : ℕ) (x : A) → slice_get xs k ≡ Some x → Each P xs → P x
@@ -89,6 +47,7 @@ each_at P (y ∷ xs) (suc k) x there each = each_at P xs k x there each.1
 looks_admitted : (roll : List Login) (moments : List Moment) → Each (IsAdmitted roll) moments → Each (λ (look : Look). Contains roll (login_made look)) (looks_in moments)
 looks_admitted roll [] each = tt
 looks_admitted roll (Told reply ∷ moments) each = looks_admitted roll moments each.1
+looks_admitted roll (Took takes learnt ∷ moments) each = looks_admitted roll moments each.1
 looks_admitted roll (Looked look ∷ moments) each = (each.0, looks_admitted roll moments each.1)
 
 -- ---- the machine of a connection
@@ -101,7 +60,7 @@ handled_logged_in roll machine (Some frame) has =
     subst (λ (s : Stage). ForSome (session_of s) (λ one. Contains roll (login after.connection one))) (sym (stage-after_frame machine frame.kind frame.payload))
     (subst (λ (n : ℕ). ForSome (session_of machine.stage) (λ one. Contains roll (login n one))) (sym (connection-after_frame machine frame.kind frame.payload)) has)
 
--- the login of which a reply tells is on the roll
+-- the login that a reply reports is on the roll
 abbrev IsGiven : List Login → ℕ → ReplyEnd → Type 0
 IsGiven roll connection (Joined session slot) = Contains roll (login connection session)
 IsGiven roll connection others = Unit {0}
@@ -134,29 +93,31 @@ module _ (opening : Opening) (roll : List Login) where
 
   module _ {L : Type 0} (facts : L → LinkFacts) where
     step_admitted : (boxes : BoxesFacts) (old : PortFacts L) (before : Shares) (new : PortFacts L) (after : Shares) (steps : PortSteps facts opening boxes old before new after) → HasLogin roll old
-        → Each (IsAdmitted roll) (look_stepped opening facts boxes old before new after steps)
+        → Each (IsAdmitted roll) (moments_stepped opening facts boxes old before new after steps)
     step_admitted boxes old before new after steps has =
-        asked_admitted old.machine.connection (session_of old.machine.stage) (action_of old.machine steps.turned.0.handled) before.common steps.routed steps.turned.1.routes has
+        each-append (IsAdmitted roll) (look_stepped opening facts boxes old before new after steps) (Took (takes_by old.machine steps.turned.0) (told_by_passes new.passes) ∷ [])
+        (asked_admitted old.machine.connection (session_of old.machine.stage) (action_of old.machine steps.turned.0.handled) before.common steps.routed steps.turned.1.routes has)
+        (tt, tt)
 
     step_logged_in : (boxes : BoxesFacts) (old : PortFacts L) (before : Shares) (new : PortFacts L) (after : Shares) → PortSteps facts opening boxes old before new after → HasLogin roll old → HasLogin roll new
     step_logged_in boxes old before new after steps has =
         subst (λ (m : Machine). IsLoggedIn roll m) (sym steps.turned.1.handles.machine) (handled_logged_in roll old.machine steps.turned.0.handled has)
 
     along_admitted : (boxes : BoxesFacts) (olds : List (PortFacts L)) (before : Shares) (news : List (PortFacts L)) (after : Shares) (along : Along (PortSteps facts opening boxes) olds before news after)
-        → Each (HasLogin roll) olds → Each (HasLogin roll) news × Each (IsAdmitted roll) (looks_along opening facts boxes olds before news after along)
+        → Each (HasLogin roll) olds → Each (HasLogin roll) news × Each (IsAdmitted roll) (moments_along opening facts boxes olds before news after along)
     along_admitted boxes [] before [] after same have = (tt, tt)
     along_admitted boxes [] before (new ∷ news) after along have = absurd along
     along_admitted boxes (old ∷ olds) before [] after along have = absurd along
     along_admitted boxes (old ∷ olds) before (new ∷ news) after (between, steps, along) have =
         let rest = along_admitted boxes olds between news after along have.1 in (
           (step_logged_in boxes old before new between steps have.0, rest.0),
-          each-append (IsAdmitted roll) (look_stepped opening facts boxes old before new between steps) (looks_along opening facts boxes olds between news after along)
+          each-append (IsAdmitted roll) (moments_stepped opening facts boxes old before new between steps) (moments_along opening facts boxes olds between news after along)
               (step_admitted boxes old before new between steps have.0) rest.1,
         )
 
     -- ---- the bell
 
-    answer_logged_in : (end : ReplyEnd) (wire : List ℕ) (passes : Option Passes) (old : PortFacts L) (closed : Option Cause) (new : PortFacts L) → Answers facts end wire passes old closed new
+    answer_logged_in : (end : ReplyEnd) (wire : List ℕ) (passes : Option PassesFacts) (old : PortFacts L) (closed : Option Cause) (new : PortFacts L) → Answers facts end wire passes old closed new
         → IsGiven roll old.machine.connection end → HasLogin roll old → HasLogin roll new
     answer_logged_in end wire passes old closed new (inl stays) is has = subst (λ (p : PortFacts L). HasLogin roll p) (sym stays.same) has
     answer_logged_in end wire passes old closed new (inr (inl takes)) is has =
@@ -164,7 +125,7 @@ module _ (opening : Opening) (roll : List Login) where
     answer_logged_in end wire passes old closed new (inr (inr closes)) is has =
         subst (λ (m : Machine). IsLoggedIn roll m) (sym (ap (λ (p : PortFacts L). p.machine) closes.closes.rest)) (answered_logged_in roll end old.machine is has)
 
-    first_logged_in : (connection : ℕ) (end : ReplyEnd) (wire : List ℕ) (passes : Option Passes) (olds : List (PortFacts L)) (closed : Option Cause) (news : List (PortFacts L))
+    first_logged_in : (connection : ℕ) (end : ReplyEnd) (wire : List ℕ) (passes : Option PassesFacts) (olds : List (PortFacts L)) (closed : Option Cause) (news : List (PortFacts L))
         → AnswersFirst facts connection end wire passes olds closed news → IsGiven roll connection end → Each (HasLogin roll) olds → Each (HasLogin roll) news
     first_logged_in connection end wire passes olds closed news (inl none) is have = subst (λ (l : List (PortFacts L)). Each (HasLogin roll) l) (sym none.same) have
     first_logged_in connection end wire passes olds closed news (inr first) is have =
@@ -232,7 +193,7 @@ module _ {L : Type 0} (facts : L → LinkFacts) (opening : Opening) where
   turn_admitted old new turn turned have =
       let begun : WorkerFacts L = record old { bell = turned.hears.bell } in
       let between = turned.between in
-      let looks : List Moment = looks_along opening facts between.boxes between.ports (shares_of between turned.heard) turned.steps.steps.stepped (shares_of new turned.worked) turned.steps.steps.along in
+      let looks : List Moment = moments_along opening facts between.boxes between.ports (shares_of between turned.heard) turned.steps.steps.stepped (shares_of new turned.worked) turned.steps.steps.along in
       let learnt = (go_heard opening facts turned.hears.item begun between turned.hears.hears).rolls in
       let later = (go_along opening facts between.boxes between.ports (shares_of between turned.heard) turned.steps.steps.stepped (shares_of new turned.worked) turned.steps.steps.along).rolls in
       let roll : List Login = new.common.router.pass.roll in

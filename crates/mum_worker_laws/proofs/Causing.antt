@@ -1,22 +1,6 @@
 -- What the answer of a turn shows.
-use Rattle.std.proofs.Common.{◌≡◌, ◌∙◌, ℕ, zero, suc, Bool, true, false, true≢false, ◌||◌, is_some, if◌then◌else◌, List, [], ◌∷◌, ◌++◌, Option, Some, None, refl, ap, sym, subst, inl, inr, ◌⊎◌, ⊎_elim}
-use Rattle.std.specs.List.{list_any}
-use Rattle.mum_crew.specs.Along.{Along}
-use Rattle.mum_crew.specs.Turns.{TurnsTo}
-use Rattle.mum_crew.specs.declared.role.Turn.{Turn}
-use Rattle.mum_crew.specs.declared.role.Turn.TheVariants.{Worked, Idle, Done}
-use Rattle.mum_io.specs.Link.{LinkFacts}
-use Rattle.mum_port.specs.Facts.{PortFacts}
-use Rattle.mum_published.specs.Bell.{Rung, Answer, Comes, Lagging, NoMore}
-use Rattle.mum_published.specs.Facts.{Opening}
-use Rattle.mum_worker.specs.Bell.{BellFacts, TakesRung}
-use Rattle.mum_worker.specs.Boxes.{BoxesFacts}
-use Rattle.mum_worker.specs.Facts.{WorkerFacts, is_done}
-use Rattle.mum_worker.specs.Hearing.{Hears}
-use Rattle.mum_worker.specs.Opening.{HasOpened}
-use Rattle.mum_worker.specs.Stepping.{PortSteps, Shares}
-use Rattle.mum_worker.specs.Turning.{Turned, WorkerTurned, shares_of}
-use Rattle.mum_worker_laws.specs.Causes.{FindsNothing, HasNothingToDo, HasWorked, StepWorked, is_no_more}
+use Rattle.mum_worker_laws.proofs.Common.{◌≡◌, ◌∙◌, ℕ, zero, suc, Bool, true, false, true≢false, ◌||◌, is_some, if◌then◌else◌, List, [], ◌∷◌, ◌++◌, Option, Some, None, refl, ap, sym, subst, inl, inr, ◌⊎◌, ⊎_elim, list_any, Along, TurnsTo, Turn, Worked, Idle, LinkFacts, PortFacts, Rung, Answer, Comes, Lagging, NoMore, Opening, BellFacts, TakesRung, BoxesFacts, WorkerFacts, is_done, Hears, HasOpened, PortSteps, Shares, Turned, WorkerTurned, shares_of, FindsNothing, HasNothingToDo, HasWorked, StepWorked, is_no_more}
+use Rattle.mum_crew.specs.declared.role.Turn.TheVariants.{Done}
 
 neither : (a b : Bool) → a || b ≡ false → (a ≡ false) × (b ≡ false)
 neither true b is = absurd (true≢false is)

@@ -1,37 +1,7 @@
 -- What one event makes of the life of a port.
-use Rattle.std.proofs.Common.{◌≡◌, ◌==◌, ◌∙◌, ℕ, Bool, true, false, cond, if◌then◌else◌, IsTrue, List, [], ◌∷◌, ◌++◌, Option, Some, None, refl, ap, sym, subst, inl, inr}
-use Rattle.std.specs.List.{AllByRecursion as Each, cons_option, filter_map}
-use Rattle.std.proofs.lemmas.Bool.{eqb-true}
-use Rattle.std.proofs.lemmas.List.{append-nil}
-use Rattle.std.specs.Prelude.{option_to_list}
-use Rattle.std.proofs.lemmas.Grind.{flat_map-append}
-use Rattle.mum_base.specs.declared.number.Cause.{Cause}
-use Rattle.mum_base.specs.declared.number.SessionId.{SessionId}
-use Rattle.mum_base.specs.declared.reply.ReplyEnd.{ReplyEnd}
-use Rattle.mum_frame.specs.declared.frame.Frame.{Frame}
-use Rattle.mum_io.specs.Link.{LinkFacts}
+use Rattle.mum_worker_laws.proofs.Common.{◌≡◌, ◌==◌, ◌∙◌, ℕ, Bool, true, false, cond, if◌then◌else◌, IsTrue, List, [], ◌∷◌, ◌++◌, Option, Some, None, refl, ap, sym, subst, inl, inr, flat_map, Each, cons_option, filter_map, eqb-true, append-nil, option_to_list, flat_map-append, Cause, SessionId, ReplyEnd, Frame, LinkFacts, PortDid, action_of, desk_after_put, machine_after, waiting_after_put, PortFacts, due_item, Event, Happens, Heard, Lives, Steps, frames_handled, items_put, lagged, replied, stepped, Answers, Lags, DeskItem, PassesFacts, waits_still, Opening, ReplyFacts, Machine, BoxesFacts, is_of, LagsWhereIts, RecordFacts, RoutesPacket, PortSteps, Shares, Moment, Take, Told, moments_stepped, takes_by, IsLife, IsNoReplyTo, Life, Said, is_item_of, items_of, packets_said, parcels_taken, put_by, routed_of, said_by, taken_of, Befallen, Happening, Heeded, befell, happenings, happenings_of, lag_befell, shut_for, step_befell}
 use Rattle.mum_outbox.specs.Facts.{PassFacts}
-use Rattle.mum_port.specs.Did.{PortDid, action_of, desk_after_put, machine_after, waiting_after_put}
-use Rattle.mum_port.specs.Facts.{PortFacts, due_item}
-use Rattle.mum_port.specs.Life.{Event, Happens, Heard, Lives, Steps, frames_handled, items_put, lagged, replied, stepped}
-use Rattle.mum_port.specs.Replies.{Answers, Lags}
-use Rattle.mum_port.specs.declared.item.DeskItem.{DeskItem}
-use Rattle.mum_port.specs.declared.passes.Passes.{Passes}
-use Rattle.mum_port.proofs.Awaiting.{waits_still}
-use Rattle.mum_published.specs.Facts.{Opening, ReplyFacts}
-use Rattle.mum_session.specs.Machine.{Machine}
-use Rattle.mum_worker.specs.Boxes.{BoxesFacts}
-use Rattle.mum_worker.specs.Facts.{is_of}
-use Rattle.mum_worker.specs.Hearing.{LagsWhereIts}
-use Rattle.mum_worker.specs.Record.{RecordFacts}
-use Rattle.mum_worker.specs.Routing.{RoutesPacket}
-use Rattle.mum_worker.specs.Stepping.{PortSteps, Shares}
-use Rattle.mum_worker_laws.specs.Laws.{Moment, Told, look_stepped}
-use Rattle.mum_worker_laws.specs.Lives.{IsLife, IsNoReplyTo, Life, Said, is_item_of, items_of, packets_said, put_by, routed_of, said_by}
-use Rattle.mum_worker_laws.specs.Befallen.{Befallen, Happening, Heeded, befell, happenings, happenings_of, lag_befell, shut_for, step_befell}
-use Rattle.mum_worker_laws.proofs.Counts.{nothing_either}
-use Rattle.mum_worker_laws.proofs.Speaking.{step_said}
-use Rattle.mum_worker_laws.proofs.Own.{OwnItem, asked-own, connection-machine_after, due-own, item-of, put-own}
+use Rattle.mum_worker_laws.proofs.{Counts.nothing_either, Speaking.step_said, Speaking.step_taken, Own.OwnItem, Own.asked-own, Own.connection-machine_after, Own.due-own, Own.item-of, Own.put-own}
 
 -- ---- one event more
 
@@ -52,6 +22,9 @@ module _ {L V : Type 0} (facts : L → LinkFacts) (routed : V → ℕ → Sessio
 said-append : (events more : List Event) → packets_said (events ++ more) ≡ packets_said events ++ packets_said more
 said-append events more = flat_map-append _ events more
 
+taken-append : (events more : List Event) → parcels_taken (events ++ more) ≡ parcels_taken events ++ parcels_taken more
+taken-append events more = flat_map-append _ events more
+
 happenings-append : (events more : List Event) → happenings (events ++ more) ≡ happenings events ++ happenings more
 happenings-append events more = flat_map-append _ events more
 
@@ -66,7 +39,7 @@ befell-of connection own false (one ∷ those) is =
     ap (λ (t : Bool). cons_option (if t then Some one else None) (happenings_of connection (befell own those))) is
     ∙ befell-of connection own false those is
 
--- ---- what is told of a worker
+-- ---- what is reported of a worker
 
 -- what was heard and routed, and what befell ports
 pub record Course : Type 0 where
@@ -84,13 +57,13 @@ pub join-nothing : (course : Course) → join course nothing ≡ course
 join-nothing course = λ i. record { moments = append-nil course.moments i; befallen = append-nil course.befallen i }
 
 -- a reply, as the port hears it
-abbrev pub heard_of : ReplyFacts → Option Passes → Heard
+abbrev pub heard_of : ReplyFacts → Option PassesFacts → Heard
 heard_of reply passes = record { end = reply.end; wire = reply.wire; passes = passes }
 
-abbrev reply_event : ReplyFacts → Option Passes → Option Cause → Event
+abbrev reply_event : ReplyFacts → Option PassesFacts → Option Cause → Event
 reply_event reply passes closed = replied (heard_of reply passes) closed
 
-abbrev pub reply_course : ReplyFacts → Option Passes → Option Cause → Course
+abbrev pub reply_course : ReplyFacts → Option PassesFacts → Option Cause → Course
 reply_course reply passes closed = record {
   moments = Told reply ∷ [];
   befallen = befell reply.connection (Heeded (heard_of reply passes) ∷ shut_for closed);
@@ -117,7 +90,7 @@ module _ {L : Type 0} where
   Waits connection life = life.first.machine.connection ≡ connection → IsTrue life.first.machine.awaits → Still connection life
 
 module _ {L : Type 0} (facts : L → LinkFacts) (opening : Opening) where
-  -- a life goes on, with what was told meanwhile, and what its port put on the desk
+  -- a life goes on, with what was sent meanwhile, and what its port put on the desk
   pub record Changes (told : Course) (put : List DeskItem) (old new : Life L) : Type 0 where
     pub first : new.first ≡ old.first
     pub lived : IsLife facts opening old → IsLife facts opening new
@@ -127,6 +100,9 @@ module _ {L : Type 0} (facts : L → LinkFacts) (opening : Opening) where
     pub since : List Said
     pub says : packets_said new.events ≡ packets_said old.events ++ since
     pub heard : IsOwn old → (connection : ℕ) (b : Bool) → (old.first.machine.connection == connection) ≡ b → filter_map (routed_of connection) told.moments ≡ cond b since []
+    pub more : List Take
+    pub takes : parcels_taken new.events ≡ parcels_taken old.events ++ more
+    pub took : IsOwn old → (connection : ℕ) (b : Bool) → (old.first.machine.connection == connection) ≡ b → flat_map (taken_of connection) told.moments ≡ cond b more []
     pub befell : List Happening
     pub happens : happenings new.events ≡ happenings old.events ++ befell
     pub mine : IsOwn old → (connection : ℕ) (b : Bool) → (old.first.machine.connection == connection) ≡ b → happenings_of connection told.befallen ≡ cond b befell []
@@ -142,6 +118,9 @@ module _ {L : Type 0} (facts : L → LinkFacts) (opening : Opening) where
     since = [];
     says = sym (append-nil (packets_said life.events));
     heard = λ own connection b is. nothing_either b;
+    more = [];
+    takes = sym (append-nil (parcels_taken life.events));
+    took = λ own connection b is. nothing_either b;
     befell = [];
     happens = sym (append-nil (happenings life.events));
     mine = λ own connection b is. nothing_either b;
@@ -204,9 +183,13 @@ module _ {L : Type 0} (facts : L → LinkFacts) (opening : Opening) where
   IsSaid told machine did =
       (connection : ℕ) → filter_map (routed_of connection) told ≡ cond (machine.connection == connection) (said_by machine (action_of machine did.handled)) []
 
+  -- and the parcels that the step took
+  abbrev IsTaken : List Moment → Machine → PortDid → Type 0
+  IsTaken told machine did = (connection : ℕ) → flat_map (taken_of connection) told ≡ cond (machine.connection == connection) (takes_by machine did) []
+
   changes_step : (told : Course) (life : Life L) (machine : Machine) (did : PortDid) (new : PortFacts L) → Steps facts (RoutesPacket opening) life.last machine did new
-      → IsSaid told.moments machine did → told.befallen ≡ befell machine.connection (shut_for did.closed) → Changes told (option_to_list did.put) life (stepped_life life machine did new)
-  changes_step told life machine did new steps said befallen_is = record {
+      → IsSaid told.moments machine did → IsTaken told.moments machine did → told.befallen ≡ befell machine.connection (shut_for did.closed) → Changes told (option_to_list did.put) life (stepped_life life machine did new)
+  changes_step told life machine did new steps said taken befallen_is = record {
     first = refl;
     lived = λ lives. lives_more facts (RoutesPacket opening) life.first life.events life.last (stepped machine did) new lives steps;
     owned = own_step life machine did new steps;
@@ -218,6 +201,12 @@ module _ {L : Type 0} (facts : L → LinkFacts) (opening : Opening) where
     heard = λ own connection b is.
         said connection
         ∙ ap (λ (t : Bool). cond t (said_by machine (action_of machine did.handled)) [])
+        (ap (λ (m : Machine). m.connection == connection) steps.of_port ∙ (ap (λ (n : ℕ). n == connection) own.number ∙ is));
+    more = takes_by machine did;
+    takes = taken-append life.events (stepped machine did ∷ []) ∙ ap (λ (l : List Take). parcels_taken life.events ++ l) (append-nil (takes_by machine did));
+    took = λ own connection b is.
+        taken connection
+        ∙ ap (λ (t : Bool). cond t (takes_by machine did) [])
         (ap (λ (m : Machine). m.connection == connection) steps.of_port ∙ (ap (λ (n : ℕ). n == connection) own.number ∙ is));
     befell = shut_for did.closed;
     happens = happenings-append life.events (stepped machine did ∷ [])
@@ -231,7 +220,7 @@ module _ {L : Type 0} (facts : L → LinkFacts) (opening : Opening) where
 
   abbrev pub step_course : (boxes : BoxesFacts) (old : PortFacts L) (before : Shares) (new : PortFacts L) (after : Shares) → PortSteps facts opening boxes old before new after → Course
   step_course boxes old before new after steps = record {
-    moments = look_stepped opening facts boxes old before new after steps;
+    moments = moments_stepped opening facts boxes old before new after steps;
     befallen = step_befell facts opening boxes old before new after steps;
   }
 
@@ -253,7 +242,8 @@ module _ {L : Type 0} (facts : L → LinkFacts) (opening : Opening) where
         now = stepped_life life old.machine steps.turned.0 new;
         changes = changes_step (step_course boxes old before new after steps) life old.machine steps.turned.0 new
             (subst (λ (p : PortFacts L). Steps facts (RoutesPacket opening) p old.machine steps.turned.0 new) (sym same) happened)
-            (λ connection. step_said opening connection facts boxes old before new after steps) refl;
+            (λ connection. step_said opening connection facts boxes old before new after steps)
+            (λ connection. step_taken opening connection facts boxes old before new after steps) refl;
         last_is = refl;
         desk = offered_more steps.turned.0.put (due_item old) before.desk after.desk steps.turned.1.puts.pass;
       }
@@ -271,7 +261,7 @@ module _ {L : Type 0} (facts : L → LinkFacts) (opening : Opening) where
     waiting = ap (λ (p : PortFacts L). p.waiting) same;
   }
 
-  pub place_answered : (end : ReplyEnd) (wire : List ℕ) (passes : Option Passes) (old : PortFacts L) (closed : Option Cause) (new : PortFacts L)
+  pub place_answered : (end : ReplyEnd) (wire : List ℕ) (passes : Option PassesFacts) (old : PortFacts L) (closed : Option Cause) (new : PortFacts L)
       → Answers facts end wire passes old closed new → KeepsPlace old new
   place_answered end wire passes old closed new (inl stays) = same_place old new stays.same
   place_answered end wire passes old closed new (inr (inl takes)) = record {
@@ -303,7 +293,7 @@ module _ {L : Type 0} (facts : L → LinkFacts) (opening : Opening) where
     waits = λ item is. subst (λ (n : ℕ). is_item_of n item ≡ true) (sym place.number) (own.waits item (sym place.waiting ∙ is));
   }
 
-  pub one_reply : (reply : ReplyFacts) (passes : Option Passes) (closed : Option Cause) (life : Life L) (new : PortFacts L) → is_of reply.connection life.last ≡ true
+  pub one_reply : (reply : ReplyFacts) (passes : Option PassesFacts) (closed : Option Cause) (life : Life L) (new : PortFacts L) → is_of reply.connection life.last ≡ true
       → Answers facts reply.end reply.wire passes life.last closed new → One (reply_course reply passes closed) life [] new []
   one_reply reply passes closed life new its answers =
       let place = place_answered reply.end reply.wire passes life.last closed new answers in record {
@@ -318,6 +308,9 @@ module _ {L : Type 0} (facts : L → LinkFacts) (opening : Opening) where
           since = [];
           says = said-append life.events (reply_event reply passes closed ∷ []);
           heard = λ own connection b is. nothing_either b;
+          more = [];
+          takes = taken-append life.events (reply_event reply passes closed ∷ []);
+          took = λ own connection b is. nothing_either b;
           befell = Heeded (heard_of reply passes) ∷ shut_for closed;
           happens = happenings-append life.events (reply_event reply passes closed ∷ [])
               ∙ ap (λ (l : List Happening). happenings life.events ++ (Heeded (heard_of reply passes) ∷ l)) (append-nil (shut_for closed));
@@ -346,6 +339,9 @@ module _ {L : Type 0} (facts : L → LinkFacts) (opening : Opening) where
           since = [];
           says = said-append life.events (lagged closed ∷ []);
           heard = λ own connection b is. nothing_either b;
+          more = [];
+          takes = taken-append life.events (lagged closed ∷ []);
+          took = λ own connection b is. nothing_either b;
           befell = shut_for closed;
           happens = happenings-append life.events (lagged closed ∷ []) ∙ ap (λ (l : List Happening). happenings life.events ++ l) (append-nil (shut_for closed));
           mine = λ own connection b is. befell-of connection life.last.machine.connection b (shut_for closed) (ap (λ (n : ℕ). n == connection) own.number ∙ is);

@@ -1,56 +1,8 @@
 -- One closing entry for each port, over turns.
-use Rattle.std.proofs.Common.{◌≡◌, ◌==◌, ◌∙◌, ◌≤◌, ◌&&◌, ◌||◌, ℕ, zero, suc, ◌+◌, ◌-◌, Bool, true, false, not, cond, min, List, [], ◌∷◌, ◌++◌, filter, length, nat_lt, slice_get, slice_set, if◌then◌else◌, Option, Some, None, refl, ap, sym, subst, inl, inr, arith, append_assoc}
-use Rattle.std.specs.List.{AllByRecursion as Each}
-use Rattle.std.proofs.lemmas.Bool.Decides.{nat_tests}
-use Rattle.std.proofs.lemmas.Bool.{eqb-true}
-use Rattle.std.proofs.lemmas.List.{append-nil}
-use Rattle.std.proofs.lemmas.List.Elements.{filter_map-append}
-use Rattle.mum_base.specs.declared.number.Cause.{Cause}
-use Rattle.mum_base.specs.declared.number.SessionId.{SessionId}
-use Rattle.mum_base.specs.declared.number.TheConstants.{CONNECTION_LIMIT}
-use Rattle.mum_base.specs.declared.reply.ReplyEnd.{ReplyEnd}
+use Rattle.mum_worker_laws.proofs.Common.{◌≡◌, ◌==◌, ◌∙◌, ◌≤◌, ◌&&◌, ◌||◌, ℕ, zero, suc, ◌+◌, ◌-◌, Bool, true, false, not, cond, min, List, [], ◌∷◌, ◌++◌, filter, length, nat_lt, slice_get, slice_set, if◌then◌else◌, Option, Some, None, refl, ap, sym, subst, inl, inr, arith, append_assoc, Each, nat_tests, eqb-true, append-nil, filter_map-append, Cause, SessionId, CONNECTION_LIMIT, ReplyEnd, Along, TurnsTo, Turn, LinkFacts, LAST, PortDid, action_of, stage_kept, PortFacts, new_port, Answers, Lags, is_closed, is_gone, stage_after_post, LooksWhereItMay, PortRoutes, Settled, PassesFacts, Leave, LastWord, Done, Stage, Live, Ending, Closed, taking-is, stage_once_put-closed, and-right, Rung, Answer, Comes, Lagging, NoMore, Opening, ReplyFacts, WorkerEntry, Machine, answered, Action, Voice, BoxesFacts, WorkerFacts, is_of, intake_of, stays, AnswersFirst, Hears, LagsWhereIts, TakesOrTurns, HasOpened, RecordFacts, after_close, first_record, has_closing_room, without_room, CommonFacts, RoutesPacket, PortSteps, Shares, Turned, WorkerTurned, shares_of, Intake, Befallen, Closing, befallen, befell, bell_befell, closing_in, closing_told, closings_in, closings_told, lags_befell, reply_befell, shut_for, steps_befell, turn_befell, closes_one, is_closing_of, is_open_of, is_open_one, IsNew, count, if_taken, ports_taken, taken_in}
+use Rattle.mum_worker_laws.proofs.{Counts.count-append, Counts.count-cons, Counts.count-left, Counts.one, Ending.ports_new, Lasting.answered-open, Lasting.first_is_of, Own.connection-machine_after}
 use Rattle.mum_base.specs.declared.reply.ReplyEnd.TheVariants as ends
-use Rattle.mum_crew.specs.Along.{Along}
-use Rattle.mum_crew.specs.Turns.{TurnsTo}
-use Rattle.mum_crew.specs.declared.role.Turn.{Turn}
-use Rattle.mum_io.specs.Link.{LinkFacts}
-use Rattle.mum_outbox.specs.declared.rule.TheConstants.{LAST}
-use Rattle.mum_port.specs.Did.{PortDid, action_of, stage_kept}
-use Rattle.mum_port.specs.Facts.{PortFacts, new_port}
-use Rattle.mum_port.specs.Replies.{Answers, Lags}
-use Rattle.mum_port.specs.Stage.{is_closed, is_gone}
-use Rattle.mum_port.specs.Taking.{stage_after_post}
-use Rattle.mum_port.specs.Turn.{LooksWhereItMay, RoutesPacket as PortRoutes, Settled}
-use Rattle.mum_port.specs.declared.passes.Passes.{Passes}
-use Rattle.mum_port.specs.declared.stage.Farewell.TheVariants.{Leave, LastWord, Done}
-use Rattle.mum_port.specs.declared.stage.Stage.{Stage}
-use Rattle.mum_port.specs.declared.stage.Stage.TheVariants.{Live, Ending, Closed}
-use Rattle.mum_port.proofs.BoxParts.{taking-is}
-use Rattle.mum_port.proofs.Course.{stage_once_put-closed}
-use Rattle.mum_port.proofs.Idle.{and-right}
-use Rattle.mum_published.specs.Bell.{Rung, Answer, Comes, Lagging, NoMore}
-use Rattle.mum_published.specs.Facts.{Opening, ReplyFacts}
-use Rattle.mum_record.specs.declared.journal.WorkerEntry.{WorkerEntry}
 use Rattle.mum_record.specs.declared.journal.WorkerEntry.TheVariants as entries
-use Rattle.mum_session.specs.Machine.{Machine, answered}
-use Rattle.mum_session.specs.declared.action.Action.{Action}
-use Rattle.mum_session.specs.declared.action.Action.TheVariants.{Voice}
-use Rattle.mum_worker.specs.Boxes.{BoxesFacts}
-use Rattle.mum_worker.specs.Facts.{WorkerFacts, is_of, intake_of, stays}
-use Rattle.mum_worker.specs.Hearing.{AnswersFirst, Hears, LagsWhereIts, TakesOrTurns}
-use Rattle.mum_worker.specs.Opening.{HasOpened}
-use Rattle.mum_worker.specs.Record.{RecordFacts, after_close, first_record, has_closing_room, without_room}
-use Rattle.mum_worker.specs.Routing.{CommonFacts, RoutesPacket}
-use Rattle.mum_worker.specs.Stepping.{PortSteps, Shares}
-use Rattle.mum_worker.specs.Turning.{Turned, WorkerTurned, shares_of}
-use Rattle.mum_worker.specs.declared.intake.Intake.{Intake}
-use Rattle.mum_worker_laws.specs.Befallen.{Befallen, Closing, befallen, befell, bell_befell, closing_in, closing_told, closings_in, closings_told, lags_befell, reply_befell, shut_for, steps_befell, turn_befell}
-use Rattle.mum_worker_laws.specs.Closings.{closes_one, is_closing_of, is_open_of, is_open_one}
-use Rattle.mum_worker_laws.specs.Lives.{IsNew, count, if_taken, ports_taken, taken_in}
-use Rattle.mum_worker_laws.proofs.Counts.{count-append, count-cons, count-left, one}
-use Rattle.mum_worker_laws.proofs.Ending.{ports_new}
-use Rattle.mum_worker_laws.proofs.Lasting.{answered-open, first_is_of}
-use Rattle.mum_worker_laws.proofs.Own.{connection-machine_after}
 
 -- ---- an entry more
 
@@ -231,7 +183,7 @@ pub record Balance {L : Type 0} (kept : RecordFacts) (ports : List (PortFacts L)
   pub journal : kept.journal ≡ true
   pub owed : kept.owed ≡ kept.left + (rest + count (is_open_one any) ports)
 
--- what became of it: as many entries came as ports closed, and they tell of the closings that befell ports
+-- what became of it: as many entries came as ports closed, and they report the closings that befell ports
 pub record Keeps {L : Type 0} (taken : (ℕ → Bool) → ℕ) (told : List Befallen) (kept : RecordFacts) (olds : List (PortFacts L)) (after : RecordFacts) (news : List (PortFacts L)) (rest : ℕ) : Type 0 where
   pub balance : Balance after news rest
   pub entries : (test : ℕ → Bool) → count (closes_one test) after.entries + count (is_open_one test) news ≡ count (closes_one test) kept.entries + (count (is_open_one test) olds + taken test)
@@ -364,7 +316,7 @@ module _ {L : Type 0} (facts : L → LinkFacts) (opening : Opening) where
   answered_number ends.Decided machine = refl
   answered_number ends.Rejected machine = refl
 
-  goes_answered : (end : ReplyEnd) (wire : List ℕ) (passes : Option Passes) (old : PortFacts L) (closed : Option Cause) (new : PortFacts L) → Answers facts end wire passes old closed new → Goes closed old new
+  goes_answered : (end : ReplyEnd) (wire : List ℕ) (passes : Option PassesFacts) (old : PortFacts L) (closed : Option Cause) (new : PortFacts L) → Answers facts end wire passes old closed new → Goes closed old new
   goes_answered end wire passes old closed new (inl same) =
       subst (λ (c : Option Cause). Goes c old new) (sym same.so) (goes_on old new (ap (λ (p : PortFacts L). p.machine.connection) same.same) (ap (λ (p : PortFacts L). is_closed p.stage) same.same))
   goes_answered end wire passes old closed new (inr (inl takes)) =
@@ -416,7 +368,7 @@ module _ {L : Type 0} (facts : L → LinkFacts) (opening : Opening) where
   }
 
   -- a reply
-  reply_keeps : (reply : ReplyFacts) (passes : Option Passes) (olds : List (PortFacts L)) (closed : Option Cause) (news : List (PortFacts L)) (kept after : RecordFacts)
+  reply_keeps : (reply : ReplyFacts) (passes : Option PassesFacts) (olds : List (PortFacts L)) (closed : Option Cause) (news : List (PortFacts L)) (kept after : RecordFacts)
       (answers : AnswersFirst facts reply.connection reply.end reply.wire passes olds closed news) → after ≡ after_close reply.connection closed kept → Balance kept olds 0
       → Keeps none_taken (reply_befell facts reply passes olds closed news answers) kept olds after news 0
   reply_keeps reply passes olds closed news kept after (inl none) noted balance =

@@ -1,8 +1,5 @@
 -- Counts and parts of lists.
-use Rattle.std.proofs.Common.{◌≡◌, ◌∙◌, ℕ, ◌+◌, Bool, true, false, cond, List, [], ◌∷◌, ◌++◌, map, length, filter, refl, ap, arith, length-append}
-use Rattle.std.specs.List.{AllByRecursion as Each}
-use Rattle.std.proofs.lemmas.List.Elements.{filter-append}
-use Rattle.mum_worker_laws.specs.Lives.{count}
+use Rattle.mum_worker_laws.proofs.Common.{◌≡◌, ◌∙◌, ℕ, ◌+◌, Bool, true, false, cond, List, [], ◌∷◌, ◌++◌, map, length, filter, refl, ap, arith, length-append, Each, filter-append, count}
 
 -- ---- counts
 

@@ -1,42 +1,6 @@
 -- What the desk has of a port once it is gone, and what each port did in order.
-use Rattle.std.proofs.Common.{◌≡◌, ◌==◌, ◌∙◌, ℕ, ◌+◌, Bool, true, false, not, cond, List, [], ◌∷◌, ◌++◌, All, length, filter, Option, Some, None, refl, ap, sym, subst, inl, inr, arith}
-use Rattle.std.specs.Prelude.{option_to_list}
-use Rattle.std.specs.List.{AllByRecursion as Each}
-use Rattle.std.proofs.lemmas.List.Elements.{All-from_recursion, recursion_from_All}
-use Rattle.mum_crew.specs.Turns.{TurnsTo}
-use Rattle.mum_crew.specs.declared.role.Turn.{Turn}
-use Rattle.mum_io.specs.Link.{LinkFacts}
-use Rattle.mum_frame.specs.declared.frame.Frame.{Frame}
-use Rattle.mum_port.specs.Did.{asked_item}
-use Rattle.mum_port.specs.Facts.{PortFacts, item_of, new_port}
-use Rattle.mum_port.specs.Life.{Event, Lives, items_asked, lagged, replied, stepped, words_said}
-use Rattle.mum_port.specs.Stage.{is_gone}
-use Rattle.mum_port.specs.declared.item.DeskItem.{DeskItem}
-use Rattle.mum_port.specs.declared.stage.Farewell.TheVariants.{Leave, LastWord, Done}
-use Rattle.mum_port.specs.declared.stage.Stage.{Stage}
-use Rattle.mum_port.specs.declared.stage.Stage.TheVariants.{Live, Ending, Closed}
-use Rattle.mum_port.proofs.Farewells.{put_once}
-use Rattle.mum_port.proofs.Lifelong.{conserved, front_of, written_in_order}
-use Rattle.mum_published.specs.Bell.{Rung, Answer, Comes, Lagging, NoMore}
-use Rattle.mum_published.specs.Facts.{Opening}
-use Rattle.mum_base.specs.declared.number.SessionId.{SessionId}
-use Rattle.mum_session.specs.Action.{action}
-use Rattle.mum_session.specs.Machine.{Machine, session_of}
-use Rattle.mum_session.specs.declared.action.Action.{Action}
-use Rattle.mum_session.specs.declared.action.Action.TheVariants.{Ask, Bans}
-use Rattle.mum_worker.specs.Facts.{WorkerFacts, is_of, intake_of, stays}
-use Rattle.mum_worker.specs.Hearing.{Hears, TakesOrTurns}
-use Rattle.mum_worker.specs.Opening.{HasOpened}
-use Rattle.mum_worker.specs.Record.{RecordFacts}
-use Rattle.mum_worker.specs.Routing.{RoutesPacket}
-use Rattle.mum_worker.specs.Turning.{WorkerTurned}
-use Rattle.mum_worker.specs.declared.intake.Intake.{Intake}
-use Rattle.mum_worker_laws.specs.Lives.{HaveLived, IsLife, IsNew, IsOrderly, Life, count, if_taken, is_closed_of, ports_taken, put_by, put_by_all, taken_in}
-use Rattle.mum_worker_laws.proofs.Changing.{IsOwn}
-use Rattle.mum_worker_laws.proofs.Counts.{count-append, count-cons, count-left, each-append, each_both, each_map, one}
-use Rattle.mum_worker_laws.proofs.Growing.{firsts, lasts}
-use Rattle.mum_worker_laws.proofs.Lasting.{turns_live}
-use Rattle.mum_worker_laws.proofs.LinkEnds.{all_frames}
+use Rattle.mum_worker_laws.proofs.Common.{◌≡◌, ◌==◌, ◌∙◌, ℕ, ◌+◌, Bool, true, false, not, cond, List, [], ◌∷◌, ◌++◌, All, length, filter, Option, Some, None, refl, ap, sym, subst, inl, inr, arith, option_to_list, Each, All-from_recursion, recursion_from_All, TurnsTo, Turn, LinkFacts, Frame, asked_item, PortFacts, item_of, new_port, Event, Lives, items_asked, lagged, replied, stepped, words_said, is_gone, DeskItem, Leave, LastWord, Done, Stage, Live, Ending, Closed, put_once, conserved, front_of, written_in_order, Rung, Answer, Comes, Lagging, NoMore, Opening, SessionId, action, Machine, session_of, Action, Ask, Bans, WorkerFacts, is_of, intake_of, stays, Hears, TakesOrTurns, HasOpened, RecordFacts, RoutesPacket, WorkerTurned, Intake, HaveLived, IsLife, IsNew, IsOrderly, Life, count, if_taken, is_closed_of, ports_taken, put_by, put_by_all, taken_in}
+use Rattle.mum_worker_laws.proofs.{Changing.IsOwn, Counts.count-append, Counts.count-cons, Counts.count-left, Counts.each-append, Counts.each_both, Counts.each_map, Counts.one, Growing.firsts, Growing.lasts, Lasting.turns_live, LinkEnds.all_frames}
 
 -- ---- the word that a port is gone
 

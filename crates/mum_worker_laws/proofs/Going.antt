@@ -1,49 +1,6 @@
 -- What turns do to what a router knows, asked and offered.
-use Rattle.std.proofs.Common.{◌≡◌, ◌≢◌, ◌==◌, ◌∙◌, ℕ, zero, suc, Bool, true, false, true≢false, List, [], ◌∷◌, ◌++◌, map, Option, Some, None, refl, ap, sym, subst, inl, inr, arith, append_assoc}
-use Rattle.std.specs.Prelude.{⊤, slice_get, slice_set, All}
-use Rattle.std.specs.List.{AllPairs, FoldsTo, cons_option, filter_map, flat_map}
-use Rattle.std.proofs.lemmas.Bool.{eq-eqb, eqb-true}
-use Rattle.std.proofs.lemmas.Grind.{flat_map-append}
-use Rattle.std.proofs.lemmas.List.{append-nil, map-append}
-use Rattle.std.proofs.lemmas.List.Elements.{All-append, All-cons, All-head, All-nil, filter_map-append}
-use Rattle.std.proofs.lemmas.List.Kept.{AllPairs-cons}
-use mathlib.Core.List.{IsPrefix}
-use Rattle.mum_base.specs.declared.number.SessionId.{SessionId}
-use Rattle.mum_base.specs.declared.number.TheConstants.{VOICE_CAPACITY}
-use Rattle.mum_crew.specs.Turns.{TurnsTo}
-use Rattle.mum_crew.specs.declared.role.Turn.{Turn}
-use Rattle.mum_io.specs.Link.{LinkFacts}
-use Rattle.mum_outbox.specs.Calls.{Offers}
-use Rattle.mum_outbox.specs.Facts.{PassFacts as BoxFacts}
-use Rattle.mum_outbox.specs.declared.parcel.VoiceParcel.{VoiceParcel}
-use Rattle.mum_outbox.specs.declared.queue.Offered.TheVariants.{Sent, Full}
-use Rattle.mum_outbox.specs.declared.queue.Offered.{Offered}
-use Rattle.mum_port.specs.Did.{action_of}
-use Rattle.mum_port.specs.Facts.{PortFacts}
-use Rattle.mum_port.specs.Turn.{RoutesPacket as PortRoutes}
-use Rattle.mum_published.specs.Facts.{NoteFacts, Opening, PassFacts, ReplyFacts}
-use Rattle.mum_published.specs.declared.roll.Login.{Login}
-use Rattle.mum_published.proofs.Prefixes.{prefix_self, prefix_trans}
-use Rattle.mum_router.specs.Facts.{RouterFacts}
-use Rattle.mum_router.specs.Laws.{RoutedPacket}
-use Rattle.mum_router.specs.Offering.{Delivers, Delivery, Outs, parcel_for}
-use Rattle.mum_router.specs.Routing.{RoutesAt}
-use Rattle.mum_router.specs.declared.offering.Routed.{Routed}
-use Rattle.mum_router.proofs.Entries.{Kept, SeesEach, kept_of, sees_append, sees_of}
-use Rattle.mum_crew.specs.Along.{Along}
-use Rattle.mum_published.specs.Bell.{Rung, Answer, Comes, Lagging, NoMore}
-use Rattle.mum_session.specs.Machine.{session_of}
-use Rattle.mum_session.specs.declared.action.Action.TheVariants.{Voice}
-use Rattle.mum_session.specs.declared.action.Action.{Action}
-use Rattle.mum_state.specs.declared.edit.Edit.{Edit}
-use Rattle.mum_voice.specs.Packet.{Parts}
-use Rattle.mum_worker.specs.Boxes.{BoxesFacts}
-use Rattle.mum_worker.specs.Facts.{WorkerFacts}
-use Rattle.mum_worker.specs.Hearing.{Admits, Hears, LearnsGiven}
-use Rattle.mum_worker.specs.Routing.{CommonFacts, RoutesPacket}
-use Rattle.mum_worker.specs.Stepping.{PortSteps, Shares}
-use Rattle.mum_worker.specs.Turning.{Turned, WorkerTurned, shares_of}
-use Rattle.mum_worker_laws.specs.Laws.{Follows, Look, Moment, Told, Looked, SeesFrom, ask_made, copies_at, copies_made, copy_for, edits_of, edits_told, history, if_sent, if_there, look_asked, look_in, look_made, look_stepped, looks_along, looks_in, moments_of, offered_in, packets_in, routed_packet, told_by}
+use Rattle.mum_worker_laws.proofs.Common.{◌≡◌, ◌≢◌, ◌==◌, ◌∙◌, ℕ, zero, suc, Bool, true, false, true≢false, List, [], ◌∷◌, ◌++◌, map, Option, Some, None, refl, ap, sym, subst, inl, inr, arith, append_assoc, ⊤, slice_get, slice_set, All, AllPairs, FoldsTo, cons_option, filter_map, flat_map, eq-eqb, eqb-true, flat_map-append, append-nil, map-append, All-append, All-cons, All-head, All-nil, filter_map-append, AllPairs-cons, IsPrefix, SessionId, VOICE_CAPACITY, TurnsTo, Turn, LinkFacts, Offers, BoxFacts, VoiceFacts, Sent, Full, Offered, action_of, PortFacts, told_by_passes, PortRoutes, edits_told, NoteFacts, Opening, PassFacts, ReplyFacts, Login, prefix_self, prefix_trans, RouterFacts, RoutedPacket, Delivers, Delivery, Outs, parcel_for, RoutesAt, Routed, Kept, SeesEach, kept_of, sees_append, sees_of, Along, Rung, Answer, Comes, Lagging, NoMore, session_of, Voice, Action, Edit, Parts, BoxesFacts, WorkerFacts, Admits, Hears, LearnsGiven, CommonFacts, RoutesPacket, PortSteps, Shares, Turned, WorkerTurned, shares_of, Follows, IsTold, Look, Moment, Take, Told, Looked, Took, SeesFrom, ask_made, copies_at, copies_made, copy_for, edits_of, history, if_sent, if_there, look_asked, look_in, look_made, look_stepped, looks_in, moments_along, moments_of, moments_stepped, offered_in, packets_in, routed_packet, takes_by, told_by}
+use Rattle.mum_worker_laws.proofs.Taking.{takes_told}
 
 -- ---- the copies of one packet
 
@@ -60,42 +17,42 @@ set_other (y ∷ xs) zero (suc k) x apart = refl
 set_other (y ∷ xs) (suc i) zero x apart = refl
 set_other (y ∷ xs) (suc i) (suc k) x apart = set_other xs i k x (λ same. apart (ap (λ (n : ℕ). suc n) same))
 
-offered_one : (answer : Offered VoiceParcel) (parcel : VoiceParcel) (old new : BoxFacts VoiceParcel) → Offers VOICE_CAPACITY old parcel answer new
+offered_one : (answer : Offered VoiceFacts) (parcel : VoiceFacts) (old new : BoxFacts VoiceFacts) → Offers VOICE_CAPACITY old parcel answer new
     → new.offered ≡ old.offered ++ cons_option (if_sent answer parcel) []
-offered_one Sent parcel old new offers = ap (λ (p : BoxFacts VoiceParcel). p.offered) offers
-offered_one (Full back) parcel old new offers = ap (λ (p : BoxFacts VoiceParcel). p.offered) offers.1 ∙ sym (append-nil old.offered)
+offered_one Sent parcel old new offers = ap (λ (p : BoxFacts VoiceFacts). p.offered) offers
+offered_one (Full back) parcel old new offers = ap (λ (p : BoxFacts VoiceFacts). p.offered) offers.1 ∙ sym (append-nil old.offered)
 
 -- the box of its slot
-own_box : (speaker : SessionId) (packet : Parts) (outs : Outs) (d : Delivery) (after : Outs) → Delivers speaker packet outs d after
-    → copies_at d.hearer.slot.0 after ≡ copies_at d.hearer.slot.0 outs ++ cons_option (if_sent d.answer (parcel_for speaker packet d.hearer)) []
-own_box speaker packet outs d after delivers =
+own_box : (edits : List Edit) (speaker : SessionId) (packet : Parts) (outs : Outs) (d : Delivery) (after : Outs) → Delivers edits speaker packet outs d after
+    → copies_at d.hearer.slot.0 after ≡ copies_at d.hearer.slot.0 outs ++ cons_option (if_sent d.answer (parcel_for edits speaker packet d.hearer)) []
+own_box edits speaker packet outs d after delivers =
     ap (λ (os : Outs). offered_in (slice_get os d.hearer.slot.0)) delivers.others
-    ∙ (ap (λ (o : Option (BoxFacts VoiceParcel)). offered_in o) (set_same outs d.hearer.slot.0 delivers.old delivers.new delivers.box)
-    ∙ (offered_one d.answer (parcel_for speaker packet d.hearer) delivers.old delivers.new delivers.offers
-    ∙ ap (λ (o : Option (BoxFacts VoiceParcel)). offered_in o ++ cons_option (if_sent d.answer (parcel_for speaker packet d.hearer)) []) (sym delivers.box)))
+    ∙ (ap (λ (o : Option (BoxFacts VoiceFacts)). offered_in o) (set_same outs d.hearer.slot.0 delivers.old delivers.new delivers.box)
+    ∙ (offered_one d.answer (parcel_for edits speaker packet d.hearer) delivers.old delivers.new delivers.offers
+    ∙ ap (λ (o : Option (BoxFacts VoiceFacts)). offered_in o ++ cons_option (if_sent d.answer (parcel_for edits speaker packet d.hearer)) []) (sym delivers.box)))
 
-delivered_where : (b : Bool) (slot : ℕ) (speaker : SessionId) (packet : Parts) (outs : Outs) (d : Delivery) (after : Outs) → (d.hearer.slot.0 == slot) ≡ b → Delivers speaker packet outs d after
-    → copies_at slot after ≡ copies_at slot outs ++ cons_option (if_there b d.answer (parcel_for speaker packet d.hearer)) []
-delivered_where true slot speaker packet outs d after is delivers =
-    subst (λ (k : ℕ). copies_at k after ≡ copies_at k outs ++ cons_option (if_sent d.answer (parcel_for speaker packet d.hearer)) [])
-    (eqb-true d.hearer.slot.0 slot is) (own_box speaker packet outs d after delivers)
-delivered_where false slot speaker packet outs d after is delivers =
+delivered_where : (b : Bool) (slot : ℕ) (edits : List Edit) (speaker : SessionId) (packet : Parts) (outs : Outs) (d : Delivery) (after : Outs) → (d.hearer.slot.0 == slot) ≡ b → Delivers edits speaker packet outs d after
+    → copies_at slot after ≡ copies_at slot outs ++ cons_option (if_there b d.answer (parcel_for edits speaker packet d.hearer)) []
+delivered_where true slot edits speaker packet outs d after is delivers =
+    subst (λ (k : ℕ). copies_at k after ≡ copies_at k outs ++ cons_option (if_sent d.answer (parcel_for edits speaker packet d.hearer)) [])
+    (eqb-true d.hearer.slot.0 slot is) (own_box edits speaker packet outs d after delivers)
+delivered_where false slot edits speaker packet outs d after is delivers =
     ap (λ (os : Outs). offered_in (slice_get os slot)) delivers.others
-    ∙ (ap (λ (o : Option (BoxFacts VoiceParcel)). offered_in o) (set_other outs d.hearer.slot.0 slot delivers.new (λ same. true≢false (sym (eq-eqb d.hearer.slot.0 slot (sym same)) ∙ is)))
+    ∙ (ap (λ (o : Option (BoxFacts VoiceFacts)). offered_in o) (set_other outs d.hearer.slot.0 slot delivers.new (λ same. true≢false (sym (eq-eqb d.hearer.slot.0 slot (sym same)) ∙ is)))
     ∙ sym (append-nil (copies_at slot outs)))
 
 onto : {X : Type 0} (one : Option X) (before after : List X) → (before ++ cons_option one []) ++ after ≡ before ++ cons_option one after
 onto None before after = ap (λ l. l ++ after) (append-nil before)
 onto (Some x) before after = append_assoc before (x ∷ []) after
 
-delivered : (slot : ℕ) (speaker : SessionId) (packet : Parts) (ds : List Delivery) (outs after : Outs) → FoldsTo (Delivers speaker packet) outs ds after
-    → copies_at slot after ≡ copies_at slot outs ++ filter_map (copy_for slot speaker packet) ds
-delivered slot speaker packet [] outs after done =
+delivered : (slot : ℕ) (edits : List Edit) (speaker : SessionId) (packet : Parts) (ds : List Delivery) (outs after : Outs) → FoldsTo (Delivers edits speaker packet) outs ds after
+    → copies_at slot after ≡ copies_at slot outs ++ filter_map (copy_for slot edits speaker packet) ds
+delivered slot edits speaker packet [] outs after done =
     ap (λ (os : Outs). copies_at slot os) (sym done) ∙ sym (append-nil (copies_at slot outs))
-delivered slot speaker packet (d ∷ ds) outs after done =
-    delivered slot speaker packet ds done.0 after done.2
-    ∙ (ap (λ (l : List VoiceParcel). l ++ filter_map (copy_for slot speaker packet) ds) (delivered_where (d.hearer.slot.0 == slot) slot speaker packet outs d done.0 refl done.1)
-    ∙ onto (copy_for slot speaker packet d) (copies_at slot outs) (filter_map (copy_for slot speaker packet) ds))
+delivered slot edits speaker packet (d ∷ ds) outs after done =
+    delivered slot edits speaker packet ds done.0 after done.2
+    ∙ (ap (λ (l : List VoiceFacts). l ++ filter_map (copy_for slot edits speaker packet) ds) (delivered_where (d.hearer.slot.0 == slot) slot edits speaker packet outs d done.0 refl done.1)
+    ∙ onto (copy_for slot edits speaker packet d) (copies_at slot outs) (filter_map (copy_for slot edits speaker packet) ds))
 
 -- ---- lists
 
@@ -131,6 +88,13 @@ IsKnown known moment = IsPrefix (edits_of moment) known
 abbrev pub IsSeen : PassFacts → Moment → Type 0
 IsSeen pass (Told reply) = ⊤
 IsSeen pass (Looked look) = IsPrefix look.edits pass.seen × IsPrefix look.edits pass.known
+IsSeen pass (Took takes learnt) = ⊤
+
+-- what is taken is by the rules, and what is learnt begins with the edits that came with it
+abbrev pub IsRightly : Opening → Moment → Type 0
+IsRightly opening (Told reply) = ⊤
+IsRightly opening (Looked look) = ⊤
+IsRightly opening (Took takes learnt) = All (IsTold opening (edits_told learnt)) takes
 
 -- these moments lead from this router to that
 pub record Goes (opening : Opening) (old new : RouterFacts) (moments : List Moment) : Type 0 where
@@ -146,6 +110,7 @@ pub record Goes (opening : Opening) (old new : RouterFacts) (moments : List Mome
   pub keeps : (edits : List Edit) → IsPrefix edits old.pass.seen → IsPrefix edits old.pass.known → IsPrefix edits new.pass.seen
   pub looked : All (IsSeen new.pass) moments
   pub rolls : IsPrefix old.pass.roll new.pass.roll
+  pub rightly : All (IsRightly opening) moments
 
 stays : (opening : Opening) (old new : RouterFacts) → new ≡ old → Goes opening old new []
 stays opening old new same = record {
@@ -160,6 +125,7 @@ stays opening old new same = record {
   keeps = λ edits seen known. subst (λ (r : RouterFacts). IsPrefix edits r.pass.seen) (sym same) seen;
   looked = All-nil (IsSeen new.pass);
   rolls = subst (λ (r : RouterFacts). IsPrefix old.pass.roll r.pass.roll) (sym same) (prefix_self old.pass.roll);
+  rightly = All-nil (IsRightly opening);
 }
 
 one_pair : (moment : Moment) → AllPairs Follows (moment ∷ [])
@@ -225,6 +191,7 @@ told opening reply old mid new learns admits =
       keeps = λ edits seen known. subst (λ (k : Kept). IsPrefix edits k.seen) (sym facts.kept) seen;
       looked = All-cons (IsSeen new.pass) (Told reply) [] tt (All-nil (IsSeen new.pass));
       rolls = subst (λ (l : List Login). IsPrefix l new.pass.roll) (roll_kept reply.note old mid learns) admits.0.mine;
+      rightly = All-cons (IsRightly opening) (Told reply) [] tt (All-nil (IsRightly opening));
     }
 
 -- ---- a look
@@ -241,8 +208,8 @@ saw opening connection old speaker packet edits deliveries new routed routes =
       within = All-cons (IsKnown new.pass.known) (Looked look) [] (subst (λ (l : List Edit). IsPrefix edits l) (sym known) (prefix_self edits)) (All-nil (IsKnown new.pass.known));
       beyond = All-cons (SeesFrom old.pass.known) (Looked look) [] routes.may.known (All-nil (SeesFrom old.pass.known));
       pairs = one_pair (Looked look);
-      copies = λ slot. delivered slot speaker packet deliveries old.outs new.outs routes.offers
-          ∙ ap (λ (l : List VoiceParcel). copies_at slot old.outs ++ l) (sym (append-nil (copies_made slot look)));
+      copies = λ slot. delivered slot edits speaker packet deliveries old.outs new.outs routes.offers
+          ∙ ap (λ (l : List VoiceFacts). copies_at slot old.outs ++ l) (sym (append-nil (copies_made slot look)));
       opened = ap (λ (r : RouterFacts). r.pass.opening) routes.router;
       sees = λ opened. (kept_of new, sees_of opening old (routed_packet look) deliveries new routed opened routes, refl);
       keeps = λ begin seen_before known_before. subst (λ (l : List Edit). IsPrefix begin l) (sym seen)
@@ -251,17 +218,40 @@ saw opening connection old speaker packet edits deliveries new routed routes =
           (subst (λ (l : List Edit). IsPrefix edits l) (sym seen) (prefix_self edits), subst (λ (l : List Edit). IsPrefix edits l) (sym known) (prefix_self edits))
           (All-nil (IsSeen new.pass));
       rolls = subst (λ (l : List Login). IsPrefix old.pass.roll l) (sym (ap (λ (r : RouterFacts). r.pass.roll) routes.router)) (prefix_self old.pass.roll);
+      rightly = All-cons (IsRightly opening) (Looked look) [] tt (All-nil (IsRightly opening));
+    }
+
+-- ---- what was taken
+
+took : (opening : Opening) (takes : List Take) (note : Option NoteFacts) (old new : RouterFacts) → LearnsGiven note old new → All (IsTold opening (edits_told note)) takes
+    → Goes opening old new (Took takes note ∷ [])
+took opening takes note old new learns told_all =
+    let facts = learnt note old new learns in record {
+      asks = facts.asks ∙ sym (append-nil old.pass.asks);
+      knows = facts.mine;
+      within = All-cons (IsKnown new.pass.known) (Took takes note) [] facts.its (All-nil (IsKnown new.pass.known));
+      beyond = All-cons (SeesFrom old.pass.known) (Took takes note) [] tt (All-nil (SeesFrom old.pass.known));
+      pairs = one_pair (Took takes note);
+      copies = λ slot. ap (λ (os : Outs). copies_at slot os) facts.outs ∙ sym (append-nil (copies_at slot old.outs));
+      opened = facts.opening;
+      sees = λ opened. facts.kept;
+      keeps = λ edits seen known. subst (λ (k : Kept). IsPrefix edits k.seen) (sym facts.kept) seen;
+      looked = All-cons (IsSeen new.pass) (Took takes note) [] tt (All-nil (IsSeen new.pass));
+      rolls = subst (λ (l : List Login). IsPrefix l new.pass.roll) (roll_kept note old new learns) (prefix_self new.pass.roll);
+      rightly = All-cons (IsRightly opening) (Took takes note) [] told_all (All-nil (IsRightly opening));
     }
 
 -- ---- one thing after another
 
-sees_more : (some more : List Edit) → IsPrefix some more → (moment : Moment) → SeesFrom more moment → SeesFrom some moment
+pub sees_more : (some more : List Edit) → IsPrefix some more → (moment : Moment) → SeesFrom more moment → SeesFrom some moment
 sees_more some more front (Told reply) sees = tt
+sees_more some more front (Took takes learnt) sees = tt
 sees_more some more front (Looked look) sees = prefix_trans some more look.edits front sees
 
 seen_on : (mid new : PassFacts) → ((edits : List Edit) → IsPrefix edits mid.seen → IsPrefix edits mid.known → IsPrefix edits new.seen)
     → IsPrefix mid.known new.known → (moment : Moment) → IsSeen mid moment → IsSeen new moment
 seen_on mid new keeps knows (Told reply) seen = tt
+seen_on mid new keeps knows (Took takes learnt) seen = tt
 seen_on mid new keeps knows (Looked look) (seen, known) = (keeps look.edits seen known, prefix_trans look.edits mid.known new.known known knows)
 
 asks_join : (ms ns : List Moment) → map ask_made (looks_in (ms ++ ns)) ≡ map ask_made (looks_in ms) ++ map ask_made (looks_in ns)
@@ -296,6 +286,7 @@ goes_on opening old mid new ms ns one other = record {
   looked = All-append (IsSeen new.pass) ms ns
       (all_on (IsSeen mid.pass) (IsSeen new.pass) (λ m seen. seen_on mid.pass new.pass other.keeps other.knows m seen) ms one.looked) other.looked;
   rolls = prefix_trans old.pass.roll mid.pass.roll new.pass.roll one.rolls other.rolls;
+  rightly = All-append (IsRightly opening) ms ns one.rightly other.rightly;
 }
 
 -- ---- the step of a port
@@ -317,21 +308,23 @@ module _ (opening : Opening) where
 
   module _ {L : Type 0} (facts : L → LinkFacts) where
     go_stepped : (boxes : BoxesFacts) (old : PortFacts L) (before : Shares) (new : PortFacts L) (after : Shares) (steps : PortSteps facts opening boxes old before new after)
-        → Goes opening before.common.router after.common.router (look_stepped opening facts boxes old before new after steps)
+        → Goes opening before.common.router after.common.router (moments_stepped opening facts boxes old before new after steps)
     go_stepped boxes old before new after steps =
-        subst (λ (r : RouterFacts). Goes opening before.common.router r (look_stepped opening facts boxes old before new after steps))
-        (sym (ap (λ (c : CommonFacts). c.router) steps.noted))
+        goes_on opening before.common.router steps.routed.router after.common.router
+        (look_stepped opening facts boxes old before new after steps) (Took (takes_by old.machine steps.turned.0) (told_by_passes new.passes) ∷ [])
         (go_asked old.machine.connection (session_of old.machine.stage) (action_of old.machine steps.turned.0.handled) before.common steps.routed steps.turned.1.routes)
+        (took opening (takes_by old.machine steps.turned.0) (told_by_passes new.passes) steps.routed.router after.common.router steps.learns
+        (takes_told opening old.machine old.passes new.passes steps.turned.0 steps.turned.1.takes.passes steps.taken))
 
     pub go_along : (boxes : BoxesFacts) (olds : List (PortFacts L)) (before : Shares) (news : List (PortFacts L)) (after : Shares) (along : Along (PortSteps facts opening boxes) olds before news after)
-        → Goes opening before.common.router after.common.router (looks_along opening facts boxes olds before news after along)
+        → Goes opening before.common.router after.common.router (moments_along opening facts boxes olds before news after along)
     go_along boxes [] before [] after same = same_common before.common after.common (ap (λ (s : Shares). s.common) same)
     go_along boxes [] before (new ∷ news) after none = absurd none
     go_along boxes (old ∷ olds) before [] after none = absurd none
     go_along boxes (old ∷ olds) before (new ∷ news) after (between, step, rest) =
         goes_on opening before.common.router between.common.router after.common.router
-        (look_stepped opening facts boxes old before new between step)
-        (looks_along opening facts boxes olds between news after rest)
+        (moments_stepped opening facts boxes old before new between step)
+        (moments_along opening facts boxes olds between news after rest)
         (go_stepped boxes old before new between step)
         (go_along boxes olds between news after rest)
 
@@ -349,7 +342,7 @@ module _ (opening : Opening) where
     go_turn old new turn turned =
         goes_on opening old.common.router turned.between.common.router new.common.router
         (told_by turned.hears.item)
-        (looks_along opening facts turned.between.boxes turned.between.ports (shares_of turned.between turned.heard) turned.steps.steps.stepped (shares_of new turned.worked) turned.steps.steps.along)
+        (moments_along opening facts turned.between.boxes turned.between.ports (shares_of turned.between turned.heard) turned.steps.steps.stepped (shares_of new turned.worked) turned.steps.steps.along)
         (go_heard turned.hears.item (record old { bell = turned.hears.bell }) turned.between turned.hears.hears)
         (go_along turned.between.boxes turned.between.ports (shares_of turned.between turned.heard) turned.steps.steps.stepped (shares_of new turned.worked) turned.steps.steps.along)
 

@@ -1,18 +1,6 @@
 -- What happens to the ports of a worker one after another, as lists of lives.
-use Rattle.std.proofs.Common.{◌≡◌, ◌==◌, ◌∙◌, ℕ, zero, suc, ◌+◌, ◌≤◌, Bool, true, false, cond, List, [], ◌∷◌, ◌++◌, map, filter, slice_get, slice_set, Some, refl, ap, sym, subst, arith, append_assoc}
-use Rattle.std.specs.List.{AllByRecursion as Each, filter_map, flat_map}
-use Rattle.std.proofs.lemmas.List.{append-nil}
-use Rattle.std.proofs.lemmas.List.Elements.{filter-append, filter_map-append}
-use Rattle.mum_crew.specs.Along.{Along}
-use Rattle.mum_io.specs.Link.{LinkFacts}
-use Rattle.mum_port.specs.Facts.{PortFacts}
-use Rattle.mum_port.specs.declared.item.DeskItem.{DeskItem}
-use Rattle.mum_published.specs.Facts.{Opening}
-use Rattle.mum_worker.specs.Facts.{is_of, stays}
-use Rattle.mum_worker_laws.specs.Befallen.{Happening, happening_of, happenings, happenings_of}
-use Rattle.mum_worker_laws.specs.Lives.{IsLife, IsNoReplyTo, Life, Said, befell_all, count, is_item_of, is_life_of, items_of, packets_said, put_by, put_by_all, put_of, routed_of, said_by_all}
-use Rattle.mum_worker_laws.proofs.Counts.{added, count-append, count-cons, each_back, each_front, one}
-use Rattle.mum_worker_laws.proofs.Changing.{Changes, Course, IsOwn, One, Waits, join, join-nothing, nothing, unchanged}
+use Rattle.mum_worker_laws.proofs.Common.{◌≡◌, ◌==◌, ◌∙◌, ℕ, zero, suc, ◌+◌, ◌≤◌, Bool, true, false, cond, List, [], ◌∷◌, ◌++◌, map, filter, slice_get, slice_set, Some, refl, ap, sym, subst, arith, append_assoc, Each, filter_map, flat_map, flat_map-append, append-nil, filter-append, filter_map-append, Along, LinkFacts, PortFacts, DeskItem, Opening, is_of, stays, Happening, happening_of, happenings, happenings_of, IsLife, IsNoReplyTo, Life, Said, befell_all, count, is_item_of, is_life_of, items_of, packets_said, parcels_taken, put_by, put_by_all, put_of, routed_of, said_by_all, taken_by_all, taken_of, Take}
+use Rattle.mum_worker_laws.proofs.{Counts.added, Counts.count-append, Counts.count-cons, Counts.each_back, Counts.each_front, Counts.one, Changing.Changes, Changing.Course, Changing.IsOwn, Changing.One, Changing.Waits, Changing.join, Changing.join-nothing, Changing.nothing, Changing.unchanged}
 
 both_empty : {A : Type 0} (xs ys : List A) → xs ++ ys ≡ [] → (xs ≡ []) × (ys ≡ [])
 both_empty [] ys is = (refl, is)
@@ -86,6 +74,7 @@ module _ {L : Type 0} (facts : L → LinkFacts) (opening : Opening) where
     pub total : (test : DeskItem → Bool) → count test (put_by_all news) ≡ count test (put_by_all olds) + count test put
     pub order : Each IsOwn olds → (connection : ℕ) → HasAtMostOne connection (firsts news) → put_of connection news ≡ put_of connection olds ++ items_of connection put
     pub says : Each IsOwn olds → (connection : ℕ) → HasAtMostOne connection (firsts news) → said_by_all connection news ≡ said_by_all connection olds ++ filter_map (routed_of connection) told.moments
+    pub takes : Each IsOwn olds → (connection : ℕ) → HasAtMostOne connection (firsts news) → taken_by_all connection news ≡ taken_by_all connection olds ++ flat_map (taken_of connection) told.moments
     pub happens : Each IsOwn olds → (connection : ℕ) → HasAtMostOne connection (firsts news) → befell_all connection news ≡ befell_all connection olds ++ happenings_of connection told.befallen
     pub waits : (connection : ℕ) → Each (IsNoReplyTo connection) told.moments → Each (Waits connection) olds → Each (Waits connection) news
 
@@ -100,6 +89,7 @@ module _ {L : Type 0} (facts : L → LinkFacts) (opening : Opening) where
     total = λ test. none_more test (count test (put_by_all lives));
     order = λ own connection few. sym (append-nil (put_of connection lives));
     says = λ own connection few. sym (append-nil (said_by_all connection lives));
+    takes = λ own connection few. sym (append-nil (taken_by_all connection lives));
     happens = λ own connection few. sym (append-nil (befell_all connection lives));
     waits = λ connection spared waits. waits;
   }
@@ -129,6 +119,10 @@ module _ {L : Type 0} (facts : L → LinkFacts) (opening : Opening) where
         traces-cons (λ (life : Life L). packets_said life.events) connection (old.first.machine.connection == connection) old new olds news change.since (filter_map (routed_of connection) told.moments) (filter_map (routed_of connection) tells.moments)
         (filter_map (routed_of connection) (told.moments ++ tells.moments)) refl change.first change.says (change.heard own.0 connection (old.first.machine.connection == connection) refl)
         (filter_map-append (routed_of connection) told.moments tells.moments) (grows.says own.1 connection) few;
+    takes = λ own connection few.
+        traces-cons (λ (life : Life L). parcels_taken life.events) connection (old.first.machine.connection == connection) old new olds news change.more (flat_map (taken_of connection) told.moments) (flat_map (taken_of connection) tells.moments)
+        (flat_map (taken_of connection) (told.moments ++ tells.moments)) refl change.first change.takes (change.took own.0 connection (old.first.machine.connection == connection) refl)
+        (flat_map-append (taken_of connection) told.moments tells.moments) (grows.takes own.1 connection) few;
     happens = λ own connection few.
         traces-cons (λ (life : Life L). happenings life.events) connection (old.first.machine.connection == connection) old new olds news change.befell (happenings_of connection told.befallen) (happenings_of connection tells.befallen)
         (happenings_of connection (told.befallen ++ tells.befallen)) refl change.first change.happens (change.mine own.0 connection (old.first.machine.connection == connection) refl)
@@ -164,6 +158,11 @@ module _ {L : Type 0} (facts : L → LinkFacts) (opening : Opening) where
         ∙ (ap (λ (l : List Said). l ++ filter_map (routed_of connection) tells.moments) (first.says own connection (fewer connection mids news takes other.begun few))
         ∙ (append_assoc (said_by_all connection olds) (filter_map (routed_of connection) told.moments) (filter_map (routed_of connection) tells.moments)
         ∙ ap (λ (l : List Said). said_by_all connection olds ++ l) (sym (filter_map-append (routed_of connection) told.moments tells.moments))));
+    takes = λ own connection few.
+        other.takes (first.owned own) connection few
+        ∙ (ap (λ (l : List Take). l ++ flat_map (taken_of connection) tells.moments) (first.takes own connection (fewer connection mids news takes other.begun few))
+        ∙ (append_assoc (taken_by_all connection olds) (flat_map (taken_of connection) told.moments) (flat_map (taken_of connection) tells.moments)
+        ∙ ap (λ (l : List Take). taken_by_all connection olds ++ l) (sym (flat_map-append (taken_of connection) told.moments tells.moments))));
     happens = λ own connection few.
         other.happens (first.owned own) connection few
         ∙ (ap (λ (l : List Happening). l ++ happenings_of connection tells.befallen) (first.happens own connection (fewer connection mids news takes other.begun few))
@@ -191,7 +190,7 @@ module _ {L : Type 0} (facts : L → LinkFacts) (opening : Opening) where
     pub kept : filter stays (lasts now) ≡ filter stays news
     pub desk : after ≡ before ++ put
 
-  -- what is told of steps that are made one after the other
+  -- what is reported of steps that are made one after the other
   module _ {C : Type 0} (step : PortFacts L → C → PortFacts L → C → Type 0) (desk_of : C → List DeskItem)
       (tell : (old : PortFacts L) (before : C) (new : PortFacts L) (after : C) → step old before new after → Course)
       (tells : (olds : List (PortFacts L)) (before : C) (news : List (PortFacts L)) (after : C) → Along step olds before news after → Course)

@@ -1,20 +1,5 @@
 -- A lag closes the ports of its session.
-use Rattle.std.proofs.Common.{◌≡◌, ◌∙◌, ℕ, true, List, [], ◌∷◌, filter, Option, refl, ap, sym, subst, inl, inr}
-use Rattle.std.specs.List.{All}
-use Rattle.std.proofs.lemmas.List.Elements.{All-append, All-cons, All-filter, All-nil, All-same}
-use Rattle.mum_base.specs.declared.number.Cause.{Cause}
-use Rattle.mum_base.specs.declared.number.SessionId.{SessionId}
-use Rattle.mum_crew.specs.Along.{Along}
-use Rattle.mum_io.specs.Link.{LinkFacts}
-use Rattle.mum_port.specs.Facts.{PortFacts}
-use Rattle.mum_port.specs.Replies.{Lags}
-use Rattle.mum_port.specs.Stage.{is_closed}
-use Rattle.mum_session.specs.Machine.{session_of}
-use Rattle.mum_worker.specs.Facts.{WorkerFacts, stays}
-use Rattle.mum_worker.specs.Hearing.{HearsLag, LagsWhereIts}
-use Rattle.mum_worker.specs.Record.{RecordFacts}
-use Rattle.mum_worker_laws.specs.Befallen.{befell, lag_befell, lags_befell, shut_for}
-use Rattle.mum_worker_laws.specs.Closings.{IsClosedWhere, IsShutByLag}
+use Rattle.mum_worker_laws.proofs.Common.{◌≡◌, ◌∙◌, ℕ, true, List, [], ◌∷◌, filter, Option, refl, ap, sym, subst, inl, inr, All, All-append, All-cons, All-filter, All-nil, All-same, Cause, SessionId, Along, LinkFacts, PortFacts, Lags, is_closed, session_of, WorkerFacts, stays, HearsLag, LagsWhereIts, RecordFacts, befell, lag_befell, lags_befell, shut_for, IsClosedWhere, IsShutByLag}
 
 module _ {L : Type 0} (facts : L → LinkFacts) where
   lagged_closed : (old : PortFacts L) (closed : Option Cause) (new : PortFacts L) → Lags facts old closed new → is_closed new.stage ≡ true

@@ -1,42 +1,8 @@
 -- What turns make of the ports of a worker.
-use Rattle.std.proofs.Common.{◌≡◌, ◌∙◌, ℕ, ◌+◌, Bool, true, false, true≢false, not, List, [], ◌∷◌, ◌++◌, map, filter, slice_get, slice_set, get_or, zero, suc, position, append_assoc, if◌then◌else◌, Option, Some, None, refl, ap, sym, subst, inl, inr, arith}
-use Rattle.std.specs.List.{AllByRecursion as Each, filter_map, flat_map}
-use Rattle.std.proofs.lemmas.Grind.{flat_map-append}
-use Rattle.std.proofs.lemmas.List.{append-nil, map-append}
-use Rattle.std.proofs.lemmas.List.Elements.{All-from_recursion, filter-append, recursion_from_All}
-use Rattle.std.proofs.lemmas.List.Quantifiers.{position-Some}
-use Rattle.mum_base.specs.declared.number.Cause.{Cause}
-use Rattle.mum_base.specs.declared.reply.ReplyEnd.{ReplyEnd}
-use Rattle.mum_base.specs.declared.reply.ReplyEnd.TheVariants as ends
-use Rattle.mum_crew.specs.Along.{Along}
-use Rattle.mum_crew.specs.Turns.{TurnsTo}
-use Rattle.mum_crew.specs.declared.role.Turn.{Turn}
-use Rattle.mum_io.specs.Link.{LinkFacts}
+use Rattle.mum_worker_laws.proofs.Common.{◌≡◌, ◌∙◌, ℕ, ◌+◌, Bool, true, false, true≢false, not, List, [], ◌∷◌, ◌++◌, map, filter, slice_get, slice_set, get_or, zero, suc, position, append_assoc, if◌then◌else◌, Option, Some, None, refl, ap, sym, subst, inl, inr, arith, Each, filter_map, flat_map, flat_map-append, append-nil, map-append, All-from_recursion, filter-append, recursion_from_All, position-Some, Cause, ReplyEnd, Along, TurnsTo, Turn, LinkFacts, PortFacts, new_port, Answers, is_closed, is_gone, stage_after_reply, DeskItem, PassesFacts, Stage, Live, Ending, Closed, Rung, Answer, Comes, Lagging, NoMore, Opening, ReplyFacts, BoxesFacts, WorkerFacts, is_of, intake_of, stays, AnswersFirst, Hears, LagsWhereIts, TakesOrTurns, HasOpened, RecordFacts, PortSteps, Shares, Turned, WorkerTurned, shares_of, Intake, Take, Told, history, moments_along, moments_of, told_by, Happening, befallen, bell_befell, happenings, happenings_of, lag_befell, lags_befell, reply_befell, steps_befell, turn_befell, HandlesNothing, HaveLived, IsLife, IsNoReplyTo, Life, Said, befell_all, count, if_taken, is_item_of, is_life_of, items_of, packets_said, parcels_taken, ports_taken, put_by, put_by_all, put_of, routed_of, said_by_all, taken_by_all, taken_in, taken_of}
 use Rattle.mum_outbox.specs.Facts.{PassFacts}
-use Rattle.mum_port.specs.Facts.{PortFacts, new_port}
-use Rattle.mum_port.specs.Replies.{Answers}
-use Rattle.mum_port.specs.Stage.{is_closed, is_gone, stage_after_reply}
-use Rattle.mum_port.specs.declared.item.DeskItem.{DeskItem}
-use Rattle.mum_port.specs.declared.passes.Passes.{Passes}
-use Rattle.mum_port.specs.declared.stage.Stage.{Stage}
-use Rattle.mum_port.specs.declared.stage.Stage.TheVariants.{Live, Ending, Closed}
-use Rattle.mum_published.specs.Bell.{Rung, Answer, Comes, Lagging, NoMore}
-use Rattle.mum_published.specs.Facts.{Opening, ReplyFacts}
-use Rattle.mum_worker.specs.Boxes.{BoxesFacts}
-use Rattle.mum_worker.specs.Facts.{WorkerFacts, is_of, intake_of, stays}
-use Rattle.mum_worker.specs.Hearing.{AnswersFirst, Hears, LagsWhereIts, TakesOrTurns}
-use Rattle.mum_worker.specs.Opening.{HasOpened}
-use Rattle.mum_worker.specs.Record.{RecordFacts}
-use Rattle.mum_worker.specs.Stepping.{PortSteps, Shares}
-use Rattle.mum_worker.specs.Turning.{Turned, WorkerTurned, shares_of}
-use Rattle.mum_worker.specs.declared.intake.Intake.{Intake}
-use Rattle.mum_worker_laws.specs.Laws.{Told, history, looks_along, moments_of, told_by}
-use Rattle.mum_worker_laws.specs.Befallen.{Happening, befallen, bell_befell, happenings, happenings_of, lag_befell, lags_befell, reply_befell, steps_befell, turn_befell}
-use Rattle.mum_worker_laws.specs.Lives.{HandlesNothing, HaveLived, IsLife, IsNoReplyTo, Life, Said, befell_all, count, if_taken, is_item_of, is_life_of, items_of, packets_said, ports_taken, put_by, put_by_all, put_of, routed_of, said_by_all, taken_in}
-use Rattle.mum_worker_laws.proofs.Changing.{Course, IsOwn, One, Waits, join, nothing, one_lag, one_reply, one_step, reply_course, step_course}
-use Rattle.mum_worker_laws.proofs.Counts.{count-append, each-append, each_so, left_twice}
-use Rattle.mum_worker_laws.proofs.Growing.{Grows, HasAtMostOne, firsts, grow_along, grow_set, grows_on, grows_same, lasts, with_put, with_taken}
-use Rattle.mum_worker_laws.proofs.Own.{OwnItem}
+use Rattle.mum_worker_laws.proofs.{Changing.Course, Changing.IsOwn, Changing.One, Changing.Waits, Changing.join, Changing.nothing, Changing.one_lag, Changing.one_reply, Changing.one_step, Changing.reply_course, Changing.step_course, Counts.count-append, Counts.each-append, Counts.each_so, Counts.left_twice, Growing.Grows, Growing.HasAtMostOne, Growing.firsts, Growing.grow_along, Growing.grow_set, Growing.grows_on, Growing.grows_same, Growing.lasts, Growing.with_put, Growing.with_taken, Own.OwnItem}
+use Rattle.mum_base.specs.declared.reply.ReplyEnd.TheVariants as ends
 
 -- ---- a reply does not let a port go
 
@@ -84,6 +50,9 @@ module _ {L : Type 0} where
   nothing_said : (connection : ℕ) (ports : List (PortFacts L)) → said_by_all connection (map begin ports) ≡ []
   nothing_said connection ports = no_trace (λ (life : Life L). packets_said life.events) (λ port. refl) connection ports
 
+  nothing_taken : (connection : ℕ) (ports : List (PortFacts L)) → taken_by_all connection (map begin ports) ≡ []
+  nothing_taken connection ports = no_trace (λ (life : Life L). parcels_taken life.events) (λ port. refl) connection ports
+
   nothing_befell : (connection : ℕ) (ports : List (PortFacts L)) → befell_all connection (map begin ports) ≡ []
   nothing_befell connection ports = no_trace (λ (life : Life L). happenings life.events) (λ port. refl) connection ports
 
@@ -110,7 +79,7 @@ module _ {L : Type 0} where
 -- ---- the bell
 
 module _ {L : Type 0} (facts : L → LinkFacts) (opening : Opening) where
-  stays_on : (end : ReplyEnd) (wire : List ℕ) (passes : Option Passes) (old : PortFacts L) (closed : Option Cause) (new : PortFacts L)
+  stays_on : (end : ReplyEnd) (wire : List ℕ) (passes : Option PassesFacts) (old : PortFacts L) (closed : Option Cause) (new : PortFacts L)
       → Answers facts end wire passes old closed new → stays old ≡ true → stays new ≡ true
   stays_on end wire passes old closed new (inl same) there = ap (λ (p : PortFacts L). stays p) same.same ∙ there
   stays_on end wire passes old closed new (inr (inl takes)) there =
@@ -149,11 +118,12 @@ module _ {L : Type 0} (facts : L → LinkFacts) (opening : Opening) where
         total = same.total;
         order = same.order;
         says = same.says;
+        takes = same.takes;
         happens = same.happens;
         waits = λ connection spared waits. waits;
       }
 
-  hear_reply : (reply : ReplyFacts) (passes : Option Passes) (closed : Option Cause) (olds news : List (PortFacts L)) (lives : List (Life L)) → olds ≡ filter stays (lasts lives)
+  hear_reply : (reply : ReplyFacts) (passes : Option PassesFacts) (closed : Option Cause) (olds news : List (PortFacts L)) (lives : List (Life L)) → olds ≡ filter stays (lasts lives)
       → (answers : AnswersFirst facts reply.connection reply.end reply.wire passes olds closed news)
       → HeardLives (record { moments = Told reply ∷ []; befallen = reply_befell facts reply passes olds closed news answers }) [] lives news
   hear_reply reply passes closed olds news lives kept (inl none) = record {
@@ -190,6 +160,7 @@ module _ {L : Type 0} (facts : L → LinkFacts) (opening : Opening) where
         total = λ test. count_new test;
         order = λ own asked few. order_new asked;
         says = λ own asked few. says_new asked;
+        takes = λ own asked few. taken_new asked;
         happens = λ own asked few. befell_new asked;
         waits = λ asked spared waits. each-append (Waits asked) lives (begin port ∷ []) waits (λ of_it awaits. absurd (true≢false (sym awaits)), tt);
       }
@@ -215,6 +186,9 @@ module _ {L : Type 0} (facts : L → LinkFacts) (opening : Opening) where
 
       says_new : (asked : ℕ) → said_by_all asked (lives ++ begin (new_port connection number link) ∷ []) ≡ said_by_all asked lives ++ []
       says_new asked = trace_new (λ (life : Life L). packets_said life.events) refl asked
+
+      taken_new : (asked : ℕ) → taken_by_all asked (lives ++ begin (new_port connection number link) ∷ []) ≡ taken_by_all asked lives ++ []
+      taken_new asked = trace_new (λ (life : Life L). parcels_taken life.events) refl asked
 
       befell_new : (asked : ℕ) → befell_all asked (lives ++ begin (new_port connection number link) ∷ []) ≡ befell_all asked lives ++ []
       befell_new asked = trace_new (λ (life : Life L). happenings life.events) refl asked
@@ -270,7 +244,7 @@ module _ {L : Type 0} (facts : L → LinkFacts) (opening : Opening) where
 
   abbrev steps_course : (boxes : BoxesFacts) (olds : List (PortFacts L)) (before : Shares) (news : List (PortFacts L)) (after : Shares) → Along (PortSteps facts opening boxes) olds before news after → Course
   steps_course boxes olds before news after along = record {
-    moments = looks_along opening facts boxes olds before news after along;
+    moments = moments_along opening facts boxes olds before news after along;
     befallen = steps_befell facts opening boxes olds before news after along;
   }
 
@@ -368,6 +342,9 @@ module _ {L : Type 0} (facts : L → LinkFacts) (opening : Opening) where
         routed = λ connection.
             sym (lasting.grows.says (own_begin old.ports settled.own) connection (subst (λ (l : List (PortFacts L)). HasAtMostOne connection l) (sym begun) (few connection))
             ∙ ap (λ (l : List Said). l ++ filter_map (routed_of connection) (history facts opening old turns new all)) (nothing_said connection old.ports));
+        taken = λ connection.
+            sym (lasting.grows.takes (own_begin old.ports settled.own) connection (subst (λ (l : List (PortFacts L)). HasAtMostOne connection l) (sym begun) (few connection))
+            ∙ ap (λ (l : List Take). l ++ flat_map (taken_of connection) (history facts opening old turns new all)) (nothing_taken connection old.ports));
         befallen_to = λ connection.
             sym (lasting.grows.happens (own_begin old.ports settled.own) connection (subst (λ (l : List (PortFacts L)). HasAtMostOne connection l) (sym begun) (few connection))
             ∙ ap (λ (l : List Happening). l ++ happenings_of connection (befallen facts opening old turns new all)) (nothing_befell connection old.ports));

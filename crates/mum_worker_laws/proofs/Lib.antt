@@ -1,3 +1,4 @@
+mod Common
 mod Admitted
 mod Causing
 mod Changing
@@ -14,6 +15,7 @@ mod Parcels
 mod Partings
 mod Rising
 mod Speaking
+mod Taking
 mod Voices
 mod Waiting
 mod Within

@@ -1,32 +1,6 @@
 -- A port that closed at the end of its link has handled all frames.
-use Rattle.std.proofs.Common.{◌≡◌, ◌∙◌, ℕ, Bool, true, false, true≢false, List, [], ◌∷◌, ◌++◌, Option, Some, None, refl, ap, sym, subst, inl, inr}
-use Rattle.std.specs.List.{All, flat_map}
-use Rattle.std.proofs.lemmas.List.{append-nil}
-use Rattle.std.specs.Prelude.{option_to_list}
-use Rattle.std.proofs.lemmas.Grind.{flat_map-append}
-use Rattle.mum_base.specs.declared.number.Cause.{Cause}
-use Rattle.mum_base.specs.declared.number.Cause.TheVariants.{End}
-use Rattle.mum_frame.specs.declared.frame.Frame.{Frame}
-use Rattle.mum_frame.specs.Frame.{IsFrame, frame_spelling}
-use Rattle.mum_frame.specs.Stream.{Splits}
-use Rattle.mum_io.specs.Link.{LinkFacts}
-use Rattle.mum_port.specs.Did.{PortDid, is_last, stage_once_put}
-use Rattle.mum_port.specs.Facts.{PortFacts, new_port}
-use Rattle.mum_port.specs.Life.{Event, Happens, Lives, Steps, bytes_taken, frames_handled, lagged, replied, stepped}
-use Rattle.mum_port.specs.Stage.{cause_of, is_closed}
-use Rattle.mum_port.specs.Taking.{stage_after_post}
-use Rattle.mum_port.specs.Turn.{Settled}
-use Rattle.mum_port.specs.declared.item.DeskItem.{DeskItem}
-use Rattle.mum_port.specs.declared.stage.Stage.{Stage}
-use Rattle.mum_port.specs.declared.stage.Stage.TheVariants.{Live, Ending, Closed}
-use Rattle.mum_port.proofs.Course.{stage_once_put-closed}
-use Rattle.mum_port.proofs.Lifelong.{end_has_all}
-use Rattle.mum_port.proofs.Living.{closed_life, quiet}
-use Rattle.mum_published.specs.Facts.{Opening}
-use Rattle.mum_session.specs.Machine.{Machine, session_of}
-use Rattle.mum_worker.specs.Routing.{RoutesPacket}
-use Rattle.mum_worker_laws.proofs.Changing.{frames-append}
-use Rattle.mum_worker_laws.proofs.Lasting.{answered-open}
+use Rattle.mum_worker_laws.proofs.Common.{◌≡◌, ◌∙◌, ℕ, Bool, true, false, true≢false, List, [], ◌∷◌, ◌++◌, Option, Some, None, refl, ap, sym, subst, inl, inr, All, flat_map, append-nil, option_to_list, flat_map-append, Cause, End, Frame, IsFrame, frame_spelling, Splits, LinkFacts, PortDid, is_last, stage_once_put, PortFacts, new_port, Event, Happens, Lives, Steps, bytes_taken, frames_handled, lagged, replied, stepped, cause_of, is_closed, stage_after_post, Settled, DeskItem, Stage, Live, Ending, Closed, stage_once_put-closed, end_has_all, closed_life, quiet, Opening, Machine, session_of, RoutesPacket}
+use Rattle.mum_worker_laws.proofs.{Changing.frames-append, Lasting.answered-open}
 
 -- ---- stages
 

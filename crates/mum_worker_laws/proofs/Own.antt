@@ -1,31 +1,8 @@
 -- What a port puts on the desk is of its own connection.
-use Rattle.std.proofs.Common.{◌≡◌, ◌==◌, ◌&&◌, ◌∙◌, ℕ, Bool, true, false, if◌then◌else◌, List, Option, Some, None, Ok, Err, refl, ap, sym}
-use Rattle.std.specs.List.{list_any}
-use Rattle.std.proofs.lemmas.Bool.{eq-eqb, eqb-true}
-use Rattle.mum_base.specs.declared.number.SessionId.{SessionId}
-use Rattle.mum_fields.specs.Table.{decoded}
-use Rattle.mum_frame.specs.declared.frame.Frame.{Frame}
-use Rattle.mum_frame.specs.declared.kind.TheConstants.{UDP_TUNNEL, VERSION, PING, AUTHENTICATE}
-use Rattle.mum_msg_state.specs.Messages.{ping, version}
-use Rattle.mum_base.specs.declared.outcome.Reason.TheVariants.{Gone, NotRead}
-use Rattle.mum_session.specs.Action.{Decoded, action, after_login, bans_action, command_action, commands_after_login, ignore, login_action, ping_action, tree_or_user_action, version_action, voice_action}
-use Rattle.mum_session.specs.Heard.{command_heard, login_heard}
-use Rattle.mum_session.specs.Machine.{Machine, is_rejected, session_of}
-use Rattle.mum_session.specs.declared.action.Action.{Action}
-use Rattle.mum_session.specs.declared.action.Action.TheVariants.{Ask, Bans}
-use Rattle.mum_session.specs.declared.action.TheConstants.{BAN_LIST}
-use Rattle.mum_session.specs.declared.command.Asked.{Asked}
+use Rattle.mum_worker_laws.proofs.Common.{◌≡◌, ◌==◌, ◌&&◌, ◌∙◌, ℕ, Bool, true, false, if◌then◌else◌, List, Option, Some, None, Ok, Err, refl, ap, sym, list_any, eq-eqb, eqb-true, SessionId, decoded, Frame, UDP_TUNNEL, VERSION, PING, AUTHENTICATE, ping, version, Gone, NotRead, Decoded, action, after_login, bans_action, command_action, commands_after_login, ignore, login_action, ping_action, tree_or_user_action, version_action, voice_action, command_heard, login_heard, Machine, is_rejected, session_of, Action, Ask, Bans, BAN_LIST, Asked, asked_item, machine_after, waiting_after_put, PortFacts, due_item, item_of, leave, next_item, next_word, waiting_after, DeskItem, Leave, LastWord, Done, Stage, Live, Ending, Closed, connection-after_frame, is_item_of}
 use Rattle.mum_session.specs.declared.heard.Heard.{Heard}
 use Rattle.mum_session.specs.declared.heard.Heard.TheVariants as heard
-use Rattle.mum_port.specs.Did.{asked_item, machine_after, waiting_after_put}
-use Rattle.mum_port.specs.Facts.{PortFacts, due_item, item_of, leave, next_item, next_word, waiting_after}
-use Rattle.mum_port.specs.declared.item.DeskItem.{DeskItem}
 use Rattle.mum_port.specs.declared.item.DeskItem.TheVariants as items
-use Rattle.mum_port.specs.declared.stage.Farewell.TheVariants.{Leave, LastWord, Done}
-use Rattle.mum_port.specs.declared.stage.Stage.{Stage}
-use Rattle.mum_port.specs.declared.stage.Stage.TheVariants.{Live, Ending, Closed}
-use Rattle.mum_port.proofs.Machines.{connection-after_frame}
-use Rattle.mum_worker_laws.specs.Lives.{is_item_of}
 
 -- ---- what a connection asks for is its own
 

@@ -1,37 +1,6 @@
 -- What the ports of a worker took from their boxes lies in the order of the offers.
-use Rattle.std.proofs.Common.{◌≡◌, ℕ, List, [], ◌∷◌, ◌++◌, filter, Option, Some, None, ap, sym, subst, inl, inr, arith}
-use Rattle.std.specs.List.{All, AllPairs}
-use Rattle.std.proofs.lemmas.List.Elements.{All-cons, All-filter, All-get_or, All-head, All-nil, All-push, All-same, All-set, All-tail}
-use Rattle.std.proofs.lemmas.Option.{get_or_from_slice_get, slice_get_within}
-use Rattle.std.proofs.Math.ListN.{set}
-use Rattle.mum_base.specs.declared.number.Cause.{Cause}
-use Rattle.mum_base.specs.declared.number.SessionId.{SessionId}
-use Rattle.mum_base.specs.declared.reply.ReplyEnd.{ReplyEnd}
-use Rattle.mum_base.specs.declared.reply.ReplyEnd.TheVariants.{Joined, Decided, Rejected}
-use Rattle.mum_crew.specs.Along.{Along}
-use Rattle.mum_crew.specs.Turns.{TurnsTo}
-use Rattle.mum_crew.specs.declared.role.Turn.{Turn}
-use Rattle.mum_io.specs.Link.{LinkFacts}
-use Rattle.mum_outbox.specs.Calls.{IsNewPass}
-use Rattle.mum_outbox.specs.Facts.{PassFacts, QueueFacts}
-use Rattle.mum_outbox.specs.Rule.{IsBefore}
-use Rattle.mum_outbox.specs.declared.rule.Tagged.{Tagged}
-use Rattle.mum_port.specs.Did.{PortDid}
-use Rattle.mum_port.specs.Facts.{PortFacts, new_port}
-use Rattle.mum_port.specs.Replies.{Answers, Lags, passes_after}
-use Rattle.mum_port.specs.Turn.{PassesTake, TakesAtMostOne}
-use Rattle.mum_port.specs.declared.passes.Passes.{Passes}
-use Rattle.mum_published.specs.Bell.{Rung, Answer, Comes, Lagging, NoMore}
-use Rattle.mum_published.specs.Facts.{Opening}
-use Rattle.mum_worker.specs.Boxes.{ArePassesFor, BoxesFacts}
-use Rattle.mum_worker.specs.Facts.{WorkerFacts, intake_of, stays}
-use Rattle.mum_worker.specs.Hearing.{AnswersFirst, Hears, LagsWhereIts, TakesOrTurns}
-use Rattle.mum_worker.specs.Opening.{HasOpened}
-use Rattle.mum_worker.specs.Record.{RecordFacts}
-use Rattle.mum_worker.specs.Stepping.{PortSteps, Shares}
-use Rattle.mum_worker.specs.Turning.{Turned, WorkerTurned, shares_of}
-use Rattle.mum_worker.specs.declared.intake.Intake.{Intake}
-use Rattle.mum_worker_laws.specs.Parcels.{AreInOrder, AreTakenInOrder, TookInOrder}
+use Rattle.mum_worker_laws.proofs.Common.{◌≡◌, ℕ, List, [], ◌∷◌, ◌++◌, filter, Option, Some, None, ap, sym, subst, inl, inr, arith, All, AllPairs, All-cons, All-filter, All-get_or, All-head, All-nil, All-push, All-same, All-set, All-tail, get_or_from_slice_get, slice_get_within, set, Cause, SessionId, ReplyEnd, Joined, Decided, Rejected, Along, TurnsTo, Turn, LinkFacts, IsNewPass, QueueFacts, IsBefore, Tagged, PortDid, PortFacts, new_port, Answers, Lags, passes_after, PassesTake, TakesAtMostOne, PassesFacts, Rung, Answer, Comes, Lagging, NoMore, Opening, ArePassesFor, BoxesFacts, WorkerFacts, intake_of, stays, AnswersFirst, Hears, LagsWhereIts, TakesOrTurns, HasOpened, RecordFacts, PortSteps, Shares, Turned, WorkerTurned, shares_of, Intake, AreInOrder, AreTakenInOrder, TookInOrder}
+use Rattle.mum_outbox.specs.Facts.{PassFacts}
 
 -- ---- one pass
 
@@ -48,7 +17,7 @@ took_in_order capacity pass None after (inr takes) was = subst (AllPairs IsBefor
 
 -- ---- the passes of a port
 
-passes_in_order : (passes : Option Passes) (did : PortDid) (after : Option Passes) → PassesTake passes did after → AreInOrder passes → AreInOrder after
+passes_in_order : (passes : Option PassesFacts) (did : PortDid) (after : Option PassesFacts) → PassesTake passes did after → AreInOrder passes → AreInOrder after
 passes_in_order None did None takes was = tt
 passes_in_order None did (Some after) takes was = absurd takes
 passes_in_order (Some passes) did None takes was = tt
@@ -57,13 +26,13 @@ passes_in_order (Some passes) did (Some after) takes was = (
   took_in_order _ passes.voice did.voice after.voice takes.voice was.1,
 )
 
-given_in_order : (boxes : BoxesFacts) (end : ReplyEnd) (given : Option Passes) → ArePassesFor boxes end given → AreInOrder given
+given_in_order : (boxes : BoxesFacts) (end : ReplyEnd) (given : Option PassesFacts) → ArePassesFor boxes end given → AreInOrder given
 given_in_order boxes (Joined session slot) None is = tt
 given_in_order boxes (Joined session slot) (Some passes) is = (new_in_order is.post_box passes.post is.post, new_in_order is.voice_box passes.voice is.voice)
 given_in_order boxes Decided given is = subst AreInOrder (sym is) tt
 given_in_order boxes Rejected given is = subst AreInOrder (sym is) tt
 
-after_in_order : (boxes : BoxesFacts) (end : ReplyEnd) (given passes : Option Passes) → ArePassesFor boxes end given → AreInOrder passes → AreInOrder (passes_after end given passes)
+after_in_order : (boxes : BoxesFacts) (end : ReplyEnd) (given passes : Option PassesFacts) → ArePassesFor boxes end given → AreInOrder passes → AreInOrder (passes_after end given passes)
 after_in_order boxes (Joined session slot) given passes is was = given_in_order boxes (Joined session slot) given is
 after_in_order boxes Decided given passes is was = was
 after_in_order boxes Rejected given passes is was = was
@@ -75,14 +44,14 @@ module _ {L : Type 0} where
 module _ {L : Type 0} (facts : L → LinkFacts) where
   -- ---- the bell
 
-  answers_in_order : (boxes : BoxesFacts) (end : ReplyEnd) (wire : List ℕ) (given : Option Passes) (old : PortFacts L) (closed : Option Cause) (new : PortFacts L)
+  answers_in_order : (boxes : BoxesFacts) (end : ReplyEnd) (wire : List ℕ) (given : Option PassesFacts) (old : PortFacts L) (closed : Option Cause) (new : PortFacts L)
       → ArePassesFor boxes end given → AreTakenInOrder old → Answers facts end wire given old closed new → AreTakenInOrder new
   answers_in_order boxes end wire given old closed new is was (inl stays_so) = in_order_same old new (ap (λ (p : PortFacts L). p.passes) stays_so.same) was
   answers_in_order boxes end wire given old closed new is was (inr (inl takes)) =
       subst AreInOrder (sym (ap (λ (p : PortFacts L). p.passes) takes.rest)) (after_in_order boxes end given old.passes is was)
   answers_in_order boxes end wire given old closed new is was (inr (inr closes)) = in_order_same old new (ap (λ (p : PortFacts L). p.passes) closes.closes.rest) was
 
-  reply_in_order : (boxes : BoxesFacts) (connection : ℕ) (end : ReplyEnd) (wire : List ℕ) (given : Option Passes) (olds : List (PortFacts L)) (closed : Option Cause) (news : List (PortFacts L))
+  reply_in_order : (boxes : BoxesFacts) (connection : ℕ) (end : ReplyEnd) (wire : List ℕ) (given : Option PassesFacts) (olds : List (PortFacts L)) (closed : Option Cause) (news : List (PortFacts L))
       → ArePassesFor boxes end given → All AreTakenInOrder olds → AnswersFirst facts connection end wire given olds closed news → All AreTakenInOrder news
   reply_in_order boxes connection end wire given olds closed news is all (inl none) = All-same AreTakenInOrder news olds none.same all
   reply_in_order boxes connection end wire given olds closed news is all (inr first) =

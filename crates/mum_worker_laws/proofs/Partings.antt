@@ -1,29 +1,8 @@
--- A port closes behind a rejection only where it heard one, and behind a last parcel only where it took one.
-use Rattle.std.proofs.Common.{◌≡◌, ◌∙◌, ℕ, ◌||◌, Bool, true, false, true≢false, List, [], ◌∷◌, ◌++◌, Option, Some, None, refl, ap, sym, subst, inl, inr}
-use Rattle.std.specs.Prelude.{⊤}
-use Rattle.std.proofs.lemmas.List.{append-nil}
-use Rattle.mum_base.specs.declared.number.Cause.{Cause}
+-- A port closes after a rejection only where it heard one, and after a last parcel only where it took one.
+use Rattle.mum_worker_laws.proofs.Common.{◌≡◌, ◌∙◌, ℕ, ◌||◌, Bool, true, false, true≢false, List, [], ◌∷◌, ◌++◌, Option, Some, None, refl, ap, sym, subst, inl, inr, ⊤, append-nil, Cause, ReplyEnd, LinkFacts, PortDid, is_last, queued, stage_kept, stage_once_put, PortFacts, stage_after_put, Event, Happens, Lives, Steps, lagged, replied, stepped, cause_of, closed_for, stage_after_reply, stage_after_post, Settled, DeskItem, Stage, Live, Ending, Closed, Opening, Machine, session_of, RoutesPacket, IsLife, IsNew, Life, is_rejection, parts, rejects, was_parted, was_rejected}
 use Rattle.mum_base.specs.declared.number.Cause.TheVariants as causes
-use Rattle.mum_base.specs.declared.reply.ReplyEnd.{ReplyEnd}
 use Rattle.mum_base.specs.declared.reply.ReplyEnd.TheVariants as ends
-use Rattle.mum_io.specs.Link.{LinkFacts}
-use Rattle.mum_port.specs.Did.{PortDid, is_last, queued, stage_kept, stage_once_put}
-use Rattle.mum_port.specs.Facts.{PortFacts, new_port, stage_after_put}
-use Rattle.mum_port.specs.Life.{Event, Happens, Lives, Steps, lagged, replied, stepped}
-use Rattle.mum_port.specs.Replies.{Answers, Lags}
-use Rattle.mum_port.specs.Stage.{cause_of, closed_for, stage_after_reply}
-use Rattle.mum_port.specs.Taking.{stage_after_post}
-use Rattle.mum_port.specs.Turn.{Settled}
-use Rattle.mum_port.specs.declared.item.DeskItem.{DeskItem}
-use Rattle.mum_port.specs.declared.stage.Farewell.TheVariants.{Leave, LastWord, Done}
 use Rattle.mum_port.specs.declared.stage.Parting.TheVariants as partings
-use Rattle.mum_port.specs.declared.stage.Stage.{Stage}
-use Rattle.mum_port.specs.declared.stage.Stage.TheVariants.{Live, Ending, Closed}
-use Rattle.mum_published.specs.Facts.{Opening}
-use Rattle.mum_session.specs.Machine.{Machine, session_of}
-use Rattle.mum_worker.specs.Routing.{RoutesPacket}
-use Rattle.mum_worker_laws.specs.Lives.{IsLife, IsNew, Life}
-use Rattle.mum_worker_laws.specs.Partings.{is_rejection, parts, rejects, was_parted, was_rejected}
 
 -- ---- or
 

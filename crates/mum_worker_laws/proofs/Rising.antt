@@ -1,28 +1,6 @@
 -- The connections that turns take in are of the worker, and their numbers rise.
-use Rattle.std.proofs.Common.{◌≡◌, ◌≢◌, ◌<◌, ◌≤◌, ◌∙◌, ℕ, ◌+◌, Bool, true, false, List, [], ◌∷◌, ◌++◌, All, filter, Option, Some, None, refl, ap, sym, subst, inl, inr, arith}
-use Rattle.std.specs.List.{AllByRecursion as Each, AllPairs}
-use Rattle.std.proofs.lemmas.Bool.{eqb-true}
-use Rattle.std.proofs.lemmas.List.Elements.{All-append, All-cons, All-filter, All-head, All-nil}
-use Rattle.std.proofs.lemmas.List.Kept.{AllPairs-cons, AllPairs-filter}
-use Rattle.mum_crew.specs.Turns.{TurnsTo}
-use Rattle.mum_crew.specs.declared.role.Turn.{Turn}
-use Rattle.mum_io.specs.Link.{LinkFacts}
-use Rattle.mum_port.specs.Facts.{PortFacts, new_port}
-use Rattle.mum_published.specs.Bell.{Rung, Answer, Comes, Lagging, NoMore}
-use Rattle.mum_published.specs.Facts.{Opening}
-use Rattle.mum_worker.specs.Facts.{WorkerFacts, is_of, intake_of, stays}
-use Rattle.mum_worker.specs.Hearing.{Hears, TakesIn, TakesOrTurns}
-use Rattle.mum_worker.specs.Opening.{HasOpened}
-use Rattle.mum_worker.specs.Record.{RecordFacts}
-use Rattle.mum_worker.specs.Intake.{worker_of}
-use Rattle.mum_worker.specs.Turning.{WorkerTurned}
-use Rattle.mum_worker.specs.declared.intake.Intake.{Intake}
-use Rattle.mum_worker_laws.specs.Lives.{IsAbove, IsBelow, IsOfAnother, IsOfWorker, Life, count, if_taken, ports_taken, taken_in}
-use Rattle.mum_worker_laws.proofs.Changing.{IsOwn}
-use Rattle.mum_worker_laws.proofs.Counts.{count-cons, one}
-use Rattle.mum_worker_laws.proofs.Going.{all_on, all_tail, pairs_head, pairs_join, pairs_nil, pairs_tail}
-use Rattle.mum_worker_laws.proofs.Growing.{HasAtMostOne, firsts, lasts}
-use Rattle.mum_worker_laws.proofs.Lasting.{turns_live}
+use Rattle.mum_worker_laws.proofs.Common.{◌≡◌, ◌≢◌, ◌<◌, ◌≤◌, ◌∙◌, ℕ, ◌+◌, Bool, true, false, List, [], ◌∷◌, ◌++◌, All, filter, Option, Some, None, refl, ap, sym, subst, inl, inr, arith, Each, AllPairs, eqb-true, All-append, All-cons, All-filter, All-head, All-nil, AllPairs-cons, AllPairs-filter, TurnsTo, Turn, LinkFacts, PortFacts, new_port, Rung, Answer, Comes, Lagging, NoMore, Opening, WorkerFacts, is_of, intake_of, stays, Hears, TakesIn, TakesOrTurns, HasOpened, RecordFacts, worker_of, WorkerTurned, Intake, IsAbove, IsBelow, IsOfAnother, IsOfWorker, Life, count, if_taken, ports_taken, taken_in}
+use Rattle.mum_worker_laws.proofs.{Changing.IsOwn, Counts.count-cons, Counts.one, Going.all_on, Going.all_tail, Going.pairs_head, Going.pairs_join, Going.pairs_nil, Going.pairs_tail, Growing.HasAtMostOne, Growing.firsts, Growing.lasts, Lasting.turns_live}
 
 module _ {L : Type 0} where
   abbrev IsAtMost : ℕ → PortFacts L → Type 0

@@ -1,40 +1,6 @@
 -- One voice entry for each packet that is routed, over turns.
-use Rattle.std.proofs.Common.{◌≡◌, ◌∙◌, ℕ, ◌+◌, min, Bool, true, false, List, [], ◌∷◌, ◌++◌, append_assoc, map, length, if◌then◌else◌, Option, Some, None, Result, Ok, ap, sym, inl, inr}
-use Rattle.std.specs.List.{filter_map}
-use Rattle.std.proofs.lemmas.List.{append-nil, map-append}
-use Rattle.std.proofs.lemmas.List.Elements.{filter_map-append}
-use Rattle.mum_base.specs.declared.number.Cause.{Cause}
-use Rattle.mum_base.specs.declared.number.SessionId.{SessionId}
-use Rattle.mum_crew.specs.Along.{Along}
-use Rattle.mum_crew.specs.Turns.{TurnsTo}
-use Rattle.mum_crew.specs.declared.role.Turn.{Turn}
-use Rattle.mum_io.specs.Link.{LinkFacts}
-use Rattle.mum_port.specs.Did.{action_of}
-use Rattle.mum_port.specs.Facts.{PortFacts}
-use Rattle.mum_port.specs.Turn.{RoutesPacket as PortRoutes}
-use Rattle.mum_outbox.specs.declared.rule.TheConstants.{LAST}
-use Rattle.mum_port.specs.declared.port.Step.{Step}
-use Rattle.mum_published.specs.Bell.{Rung, Answer, Comes, Lagging, NoMore}
-use Rattle.mum_published.specs.Facts.{Opening}
-use Rattle.mum_record.specs.declared.journal.WorkerEntry.{WorkerEntry}
+use Rattle.mum_worker_laws.proofs.Common.{◌≡◌, ◌∙◌, ℕ, ◌+◌, min, Bool, true, false, List, [], ◌∷◌, ◌++◌, append_assoc, map, length, if◌then◌else◌, Option, Some, None, Result, Ok, ap, sym, inl, inr, filter_map, append-nil, map-append, filter_map-append, Cause, SessionId, Along, TurnsTo, Turn, LinkFacts, action_of, PortFacts, PortRoutes, LAST, Step, told_by_passes, Rung, Answer, Comes, Lagging, NoMore, NoteFacts, Opening, WorkerEntry, RouterFacts, session_of, Action, Voice, Parts, packet, BadVoice, BoxesFacts, WorkerFacts, intake_of, Hears, LagsWhereIts, TakesOrTurns, HasOpened, RecordFacts, after_close, after_step, has_closing_room, CommonFacts, RoutesPacket, PortSteps, Shares, Turned, WorkerTurned, shares_of, Intake, Look, Moment, Take, Told, Took, history, look_asked, look_in, look_made, look_stepped, looks_in, moments_along, moments_of, moments_stepped, takes_by, told_by, talk_in, talk_made}
 use Rattle.mum_record.specs.declared.journal.WorkerEntry.TheVariants as entries
-use Rattle.mum_router.specs.Facts.{RouterFacts}
-use Rattle.mum_session.specs.Machine.{session_of}
-use Rattle.mum_session.specs.declared.action.Action.{Action}
-use Rattle.mum_session.specs.declared.action.Action.TheVariants.{Voice}
-use Rattle.mum_voice.specs.Packet.{Parts, packet}
-use Rattle.mum_voice.specs.declared.fault.BadVoice.{BadVoice}
-use Rattle.mum_worker.specs.Boxes.{BoxesFacts}
-use Rattle.mum_worker.specs.Facts.{WorkerFacts, intake_of}
-use Rattle.mum_worker.specs.Hearing.{Hears, LagsWhereIts, TakesOrTurns}
-use Rattle.mum_worker.specs.Opening.{HasOpened}
-use Rattle.mum_worker.specs.Record.{RecordFacts, after_close, after_step, has_closing_room}
-use Rattle.mum_worker.specs.Routing.{CommonFacts, RoutesPacket}
-use Rattle.mum_worker.specs.Stepping.{PortSteps, Shares}
-use Rattle.mum_worker.specs.Turning.{Turned, WorkerTurned, shares_of}
-use Rattle.mum_worker.specs.declared.intake.Intake.{Intake}
-use Rattle.mum_worker_laws.specs.Laws.{Look, Moment, Told, history, look_asked, look_in, look_made, look_stepped, looks_along, looks_in, moments_of, told_by}
-use Rattle.mum_worker_laws.specs.Voices.{talk_in, talk_made}
 
 -- these moments were written down: each look has an entry, where a journal is kept
 record Writes (moments : List Moment) (old new : RecordFacts) : Type 0 where
@@ -60,6 +26,10 @@ and_then ms ns old mid new one other = record {
       chained (filter_map talk_in old.entries) (filter_map talk_in mid.entries) (filter_map talk_in new.entries) (map talk_made (looks_in ms)) (map talk_made (looks_in ns)) (map talk_made (looks_in (ms ++ ns)))
       (one.voices asked) (other.voices (one.journal ∙ asked)) (talks_join ms ns);
 }
+
+-- what is taken adds no packet
+quiet : (takes : List Take) (note : Option NoteFacts) (old new : RecordFacts) → Writes [] old new → Writes (Took takes note ∷ []) old new
+quiet takes learnt old new writes = record { journal = writes.journal; voices = writes.voices }
 
 -- ---- closes
 
@@ -107,7 +77,7 @@ module _ (opening : Opening) where
   of_asked connection session others old new same = same_common old new same
 
   module _ {L : Type 0} (facts : L → LinkFacts) where
-    -- what is noted behind it adds no packet
+    -- what is noted after it adds no packet
     behind : (moments : List Moment) (old mid new : RecordFacts) → Writes moments old mid → Writes [] mid new → Writes moments old new
     behind moments old mid new one other = record {
       journal = other.journal ∙ one.journal;
@@ -115,11 +85,12 @@ module _ (opening : Opening) where
     }
 
     stepped : (boxes : BoxesFacts) (old : PortFacts L) (before : Shares) (new : PortFacts L) (after : Shares) (steps : PortSteps facts opening boxes old before new after)
-        → Writes (look_stepped opening facts boxes old before new after steps) before.common.kept after.common.kept
+        → Writes (moments_stepped opening facts boxes old before new after steps) before.common.kept after.common.kept
     stepped boxes old before new after steps =
-        behind (look_stepped opening facts boxes old before new after steps) before.common.kept steps.routed.kept after.common.kept
+        and_then (look_stepped opening facts boxes old before new after steps) (Took (takes_by old.machine steps.turned.0) (told_by_passes new.passes) ∷ []) before.common.kept steps.routed.kept after.common.kept
         (of_asked old.machine.connection (session_of old.machine.stage) (action_of old.machine steps.turned.0.handled) before.common steps.routed steps.turned.1.routes)
-        (noted old.machine.connection steps.step steps.routed.kept after.common.kept (ap (λ (c : CommonFacts). c.kept) steps.noted))
+        (quiet (takes_by old.machine steps.turned.0) (told_by_passes new.passes) steps.routed.kept after.common.kept
+        (noted old.machine.connection steps.step steps.routed.kept after.common.kept (ap (λ (c : CommonFacts). c.kept) steps.noted)))
       where
         noted : (connection : ℕ) (step : Step) (kept after_it : RecordFacts) → after_it ≡ after_step connection step kept → Writes [] kept after_it
         noted connection step kept after_it is =
@@ -127,12 +98,12 @@ module _ (opening : Opening) where
             record { journal = silent.journal; voices = silent.voices }
 
     along : (boxes : BoxesFacts) (olds : List (PortFacts L)) (before : Shares) (news : List (PortFacts L)) (after : Shares) (all : Along (PortSteps facts opening boxes) olds before news after)
-        → Writes (looks_along opening facts boxes olds before news after all) before.common.kept after.common.kept
+        → Writes (moments_along opening facts boxes olds before news after all) before.common.kept after.common.kept
     along boxes [] before [] after same = same_common before.common after.common (ap (λ (s : Shares). s.common) same)
     along boxes [] before (new ∷ news) after none = absurd none
     along boxes (old ∷ olds) before [] after none = absurd none
     along boxes (old ∷ olds) before (new ∷ news) after (between, step, rest) =
-        and_then (look_stepped opening facts boxes old before new between step) (looks_along opening facts boxes olds between news after rest)
+        and_then (moments_stepped opening facts boxes old before new between step) (moments_along opening facts boxes olds between news after rest)
         before.common.kept between.common.kept after.common.kept
         (stepped boxes old before new between step) (along boxes olds between news after rest)
 
@@ -169,7 +140,7 @@ module _ (opening : Opening) where
         → Writes (moments_of facts opening old new turn turned) old.common.kept new.common.kept
     turn_writes old new turn turned =
         and_then (told_by turned.hears.item)
-        (looks_along opening facts turned.between.boxes turned.between.ports (shares_of turned.between turned.heard) turned.steps.steps.stepped (shares_of new turned.worked) turned.steps.steps.along)
+        (moments_along opening facts turned.between.boxes turned.between.ports (shares_of turned.between turned.heard) turned.steps.steps.stepped (shares_of new turned.worked) turned.steps.steps.along)
         old.common.kept turned.between.common.kept new.common.kept
         (heard turned.hears.item (record old { bell = turned.hears.bell }) turned.between turned.hears.hears)
         (along turned.between.boxes turned.between.ports (shares_of turned.between turned.heard) turned.steps.steps.stepped (shares_of new turned.worked) turned.steps.steps.along)

@@ -1,42 +1,6 @@
 -- A connection that awaits a reply is not heard before it comes.
-use Rattle.std.proofs.Common.{◌≡◌, ◌≢◌, ◌∙◌, ℕ, zero, suc, true, true≢false, not, IsTrue, List, [], ◌∷◌, All, slice_set, Option, Some, None, refl, ap, sym, subst, inl, inr}
-use Rattle.std.specs.List.{AllByRecursion as Each}
-use Rattle.std.proofs.lemmas.Bool.{eqb-true}
-use Rattle.std.proofs.lemmas.List.Elements.{All-from_recursion, recursion_from_All}
-use Rattle.mum_base.specs.declared.number.SessionId.{SessionId}
-use Rattle.mum_crew.specs.Along.{Along}
-use Rattle.mum_crew.specs.Turns.{TurnsTo}
-use Rattle.mum_crew.specs.declared.role.Turn.{Turn}
-use Rattle.mum_frame.specs.declared.frame.Frame.{Frame}
-use Rattle.mum_io.specs.Link.{LinkFacts}
-use Rattle.mum_port.specs.Did.{action_of, asked_item, machine_after, port_after_put}
-use Rattle.mum_port.specs.Facts.{PortFacts, may_handle, new_port}
-use Rattle.mum_port.specs.Turn.{RoutesPacket as PortRoutes}
-use Rattle.mum_port.specs.Life.{Steps}
-use Rattle.mum_port.specs.Stage.{is_live}
-use Rattle.mum_port.specs.declared.item.DeskItem.{DeskItem}
-use Rattle.mum_port.proofs.Awaiting.{awaits_then, waits_still}
-use Rattle.mum_port.proofs.Closing.{and-left}
-use Rattle.mum_port.proofs.Idle.{and-right}
-use Rattle.mum_published.specs.Bell.{Rung, Answer, Comes, Lagging, NoMore}
-use Rattle.mum_published.specs.Facts.{Opening}
-use Rattle.mum_session.specs.Machine.{Machine, session_of}
-use Rattle.mum_session.specs.declared.action.Action.{Action}
-use Rattle.mum_session.specs.declared.action.Action.TheVariants.{Voice}
-use Rattle.mum_worker.specs.Boxes.{BoxesFacts}
-use Rattle.mum_worker.specs.Facts.{WorkerFacts, intake_of, stays}
-use Rattle.mum_worker.specs.Hearing.{AnswersFirst, Hears, LagsWhereIts, TakesOrTurns}
-use Rattle.mum_worker.specs.Record.{RecordFacts}
-use Rattle.mum_worker.specs.Routing.{CommonFacts, RoutesPacket}
-use Rattle.mum_worker.specs.Stepping.{PortSteps, Shares}
-use Rattle.mum_worker.specs.Turning.{WorkerTurned, shares_of}
-use Rattle.mum_worker.specs.declared.intake.Intake.{Intake}
-use Rattle.mum_worker_laws.specs.Laws.{Moment, history, look_asked, look_made, look_stepped, looks_along, moments_of, told_by}
-use Rattle.mum_worker_laws.specs.Lives.{AwaitsReply, IsNoPacketOf, IsNoReplyTo, IsOfAnother, if_taken, ports_taken, taken_in}
-use Rattle.mum_worker_laws.proofs.Changing.{awaits_lagged, place_answered, place_lagged}
-use Rattle.mum_worker_laws.proofs.Counts.{each-append, each_back, each_front, each_left}
-use Rattle.mum_worker_laws.proofs.Lasting.{first_is_of}
-use Rattle.mum_worker_laws.proofs.Own.{connection-machine_after}
+use Rattle.mum_worker_laws.proofs.Common.{◌≡◌, ◌≢◌, ◌∙◌, ℕ, zero, suc, true, true≢false, not, IsTrue, List, [], ◌∷◌, All, slice_set, Option, Some, None, refl, ap, sym, subst, inl, inr, Each, eqb-true, All-from_recursion, recursion_from_All, SessionId, Along, TurnsTo, Turn, Frame, LinkFacts, action_of, asked_item, machine_after, port_after_put, PortFacts, may_handle, new_port, PortRoutes, Steps, is_live, DeskItem, awaits_then, waits_still, and-left, and-right, told_by_passes, Rung, Answer, Comes, Lagging, NoMore, Opening, Machine, session_of, Action, Voice, BoxesFacts, WorkerFacts, intake_of, stays, AnswersFirst, Hears, LagsWhereIts, TakesOrTurns, RecordFacts, CommonFacts, RoutesPacket, PortSteps, Shares, WorkerTurned, shares_of, Intake, Moment, Took, history, look_asked, look_made, look_stepped, moments_along, moments_of, moments_stepped, takes_by, told_by, AwaitsReply, IsNoPacketOf, IsNoReplyTo, IsOfAnother, if_taken, ports_taken, taken_in}
+use Rattle.mum_worker_laws.proofs.{Changing.awaits_lagged, Changing.place_answered, Changing.place_lagged, Counts.each-append, Counts.each_back, Counts.each_front, Counts.each_left, Lasting.first_is_of, Own.connection-machine_after}
 
 -- ---- no packet meanwhile
 
@@ -72,10 +36,12 @@ module _ (opening : Opening) (asked : ℕ) where
 
   module _ {L : Type 0} (facts : L → LinkFacts) where
     step_of_another : (boxes : BoxesFacts) (old : PortFacts L) (before : Shares) (new : PortFacts L) (after : Shares) (steps : PortSteps facts opening boxes old before new after) → AwaitsReply asked old
-        → Each (IsNoPacketOf asked) (look_stepped opening facts boxes old before new after steps)
+        → Each (IsNoPacketOf asked) (moments_stepped opening facts boxes old before new after steps)
     step_of_another boxes old before new after steps awaits =
-        handled_of_another old.machine steps.turned.0.handled before.common steps.routed steps.turned.1.routes
-        (λ frame is its. not_handled (port_after_put steps.turned.0.put old) (awaits its) (steps.turned.1.handles.allowed frame is))
+        each-append (IsNoPacketOf asked) (look_stepped opening facts boxes old before new after steps) (Took (takes_by old.machine steps.turned.0) (told_by_passes new.passes) ∷ [])
+        (handled_of_another old.machine steps.turned.0.handled before.common steps.routed steps.turned.1.routes
+        (λ frame is its. not_handled (port_after_put steps.turned.0.put old) (awaits its) (steps.turned.1.handles.allowed frame is)))
+        (tt, tt)
 
     step_awaits : (boxes : BoxesFacts) (old : PortFacts L) (before : Shares) (new : PortFacts L) (after : Shares) → PortSteps facts opening boxes old before new after → AwaitsReply asked old → AwaitsReply asked new
     step_awaits boxes old before new after steps awaits =
@@ -96,14 +62,14 @@ module _ (opening : Opening) (asked : ℕ) where
         ap (λ (m : Machine). m.awaits) (turn.1.handles.machine ∙ ap (λ (f : Option Frame). machine_after old.machine f) (waits_still facts (RoutesPacket opening) old old.machine turn.0 new happened was)) ∙ was
 
     along_of_another : (boxes : BoxesFacts) (olds : List (PortFacts L)) (before : Shares) (news : List (PortFacts L)) (after : Shares) (along : Along (PortSteps facts opening boxes) olds before news after)
-        → Each (AwaitsReply asked) olds → Each (AwaitsReply asked) news × Each (IsNoPacketOf asked) (looks_along opening facts boxes olds before news after along)
+        → Each (AwaitsReply asked) olds → Each (AwaitsReply asked) news × Each (IsNoPacketOf asked) (moments_along opening facts boxes olds before news after along)
     along_of_another boxes [] before [] after same await = (tt, tt)
     along_of_another boxes [] before (new ∷ news) after along await = absurd along
     along_of_another boxes (old ∷ olds) before [] after along await = absurd along
     along_of_another boxes (old ∷ olds) before (new ∷ news) after (between, steps, along) await =
         let rest = along_of_another boxes olds between news after along await.1 in (
           (step_awaits boxes old before new between steps await.0, rest.0),
-          each-append (IsNoPacketOf asked) (look_stepped opening facts boxes old before new between steps) (looks_along opening facts boxes olds between news after along)
+          each-append (IsNoPacketOf asked) (moments_stepped opening facts boxes old before new between steps) (moments_along opening facts boxes olds between news after along)
               (step_of_another boxes old before new between steps await.0) rest.1,
         )
 
@@ -159,7 +125,7 @@ module _ (opening : Opening) (asked : ℕ) where
     none_of_it old (turn ∷ turns) new (mid, turned, rest) spared others await =
         let moments : List Moment = moments_of facts opening old mid turn turned in
         let later : List Moment = history facts opening mid turns new rest in
-        let looks : List Moment = looks_along opening facts turned.between.boxes turned.between.ports (shares_of turned.between turned.heard) turned.steps.steps.stepped (shares_of mid turned.worked) turned.steps.steps.along in
+        let looks : List Moment = moments_along opening facts turned.between.boxes turned.between.ports (shares_of turned.between turned.heard) turned.steps.steps.stepped (shares_of mid turned.worked) turned.steps.steps.along in
         let taken : List (PortFacts L) = taken_in facts turned.hears.item (record old { bell = turned.hears.bell }) turned.between turned.hears.hears in
         let heard = hear_awaits turned.hears.item (record old { bell = turned.hears.bell }) turned.between turned.hears.hears
         (each_front (IsNoReplyTo asked) (told_by turned.hears.item) looks (each_front (IsNoReplyTo asked) moments later spared))

@@ -1,26 +1,21 @@
 -- What befell the ports of a worker beside their steps: the replies that they heard, and their closings.
+use mathlib.Core.Logic.{inl, inr}
 use Rattle.std.specs.Prelude.{◌==◌, ℕ, List, [], ◌∷◌, ◌++◌, map, Option, Some, None, if◌then◌else◌}
 use Rattle.std.specs.List.{filter_map, flat_map}
-use mathlib.Core.Logic.{inl, inr}
-use Rattle.mum_base.specs.declared.number.Cause.{Cause}
-use Rattle.mum_base.specs.declared.number.SessionId.{SessionId}
-use Rattle.mum_crew.specs.Along.{Along}
-use Rattle.mum_crew.specs.Turns.{TurnsTo}
-use Rattle.mum_crew.specs.declared.role.Turn.{Turn}
+use Rattle.mum_base.specs.declared.number.{Cause.Cause, SessionId.SessionId}
 use Rattle.mum_io.specs.Link.{LinkFacts}
-use Rattle.mum_port.specs.Facts.{PortFacts}
-use Rattle.mum_port.specs.Life.{Event, Heard, lagged, replied, stepped}
-use Rattle.mum_port.specs.declared.passes.Passes.{Passes}
+use Rattle.mum_crew.specs.{Along.Along, Turns.TurnsTo}
+use Rattle.mum_crew.specs.declared.role.Turn.{Turn}
+use Rattle.mum_record.specs.declared.journal.WorkerEntry.{WorkerEntry}
 use Rattle.mum_published.specs.Bell.{Rung, Answer, Comes, Lagging, NoMore}
 use Rattle.mum_published.specs.Facts.{Opening, ReplyFacts}
-use Rattle.mum_record.specs.declared.journal.WorkerEntry.{WorkerEntry}
-use Rattle.mum_record.specs.declared.journal.WorkerEntry.TheVariants as entries
-use Rattle.mum_worker.specs.Boxes.{BoxesFacts}
-use Rattle.mum_worker.specs.Facts.{WorkerFacts}
-use Rattle.mum_worker.specs.Hearing.{AnswersFirst, Hears, LagsWhereIts}
-use Rattle.mum_worker.specs.Record.{RecordFacts}
+use Rattle.mum_port.specs.{Facts.PortFacts, Passes.PassesFacts}
+use Rattle.mum_port.specs.Life.{Event, Heard, lagged, replied, stepped}
+use Rattle.mum_worker.specs.{Boxes.BoxesFacts, Facts.WorkerFacts}
+use Rattle.mum_worker.specs.{Hearing.AnswersFirst, Hearing.Hears, Hearing.LagsWhereIts, Record.RecordFacts}
 use Rattle.mum_worker.specs.Stepping.{PortSteps, Shares}
 use Rattle.mum_worker.specs.Turning.{Turned, WorkerTurned, shares_of}
+use Rattle.mum_record.specs.declared.journal.WorkerEntry.TheVariants as entries
 
 -- a port heard a reply, or closed for a cause
 pub data Happening : Type 0 where
@@ -77,7 +72,7 @@ closing_in one = closing_by one.connection one.happening
 abbrev pub closings_in : List Befallen → List Closing
 closings_in befallen = filter_map closing_in befallen
 
--- the closing of which an entry of a journal tells
+-- the closing that an entry of a journal reports
 abbrev pub closing_told : WorkerEntry → Option Closing
 closing_told (entries.Voice connection revision packet copies) = None
 closing_told (entries.Closed connection cause) = Some (record { connection = connection; cause = cause })
@@ -89,19 +84,23 @@ module _ {L : Type 0} (facts : L → LinkFacts) where
   -- ---- what the bell gave
 
   -- a reply: the first port of its connection heard it, if there is one
-  abbrev pub reply_befell : (reply : ReplyFacts) (passes : Option Passes) (olds : List (PortFacts L)) (closed : Option Cause) (news : List (PortFacts L))
+  abbrev pub reply_befell : (reply : ReplyFacts) (passes : Option PassesFacts) (olds : List (PortFacts L))
+      (closed : Option Cause) (news : List (PortFacts L))
       → AnswersFirst facts reply.connection reply.end reply.wire passes olds closed news → List Befallen
   reply_befell reply passes olds closed news (inl none) = []
   reply_befell reply passes olds closed news (inr first) =
-      befell reply.connection (Heeded (record { end = reply.end; wire = reply.wire; passes = passes }) ∷ shut_for closed)
+      befell reply.connection
+      (Heeded (record { end = reply.end; wire = reply.wire; passes = passes }) ∷ shut_for closed)
 
   -- a lag: each port of the session closed, unless it was closed
-  abbrev pub lag_befell : (session : SessionId) (old : PortFacts L) (before : RecordFacts) (new : PortFacts L) (after : RecordFacts)
+  abbrev pub lag_befell : (session : SessionId) (old : PortFacts L) (before : RecordFacts) (new : PortFacts L)
+      (after : RecordFacts)
       → LagsWhereIts facts session old before new after → List Befallen
   lag_befell session old before new after (inl passes) = []
   lag_befell session old before new after (inr lags) = befell old.machine.connection (shut_for lags.closed)
 
-  abbrev pub lags_befell : (session : SessionId) (olds : List (PortFacts L)) (before : RecordFacts) (news : List (PortFacts L)) (after : RecordFacts)
+  abbrev pub lags_befell : (session : SessionId) (olds : List (PortFacts L)) (before : RecordFacts)
+      (news : List (PortFacts L)) (after : RecordFacts)
       → Along (LagsWhereIts facts session) olds before news after → List Befallen
   lags_befell session [] before [] after none = []
   lags_befell session [] before (new ∷ news) after none = []
@@ -121,11 +120,13 @@ module _ {L : Type 0} (facts : L → LinkFacts) where
 module _ {L : Type 0} (facts : L → LinkFacts) (opening : Opening) where
   -- ---- the steps of ports
 
-  abbrev pub step_befell : (boxes : BoxesFacts) (old : PortFacts L) (before : Shares) (new : PortFacts L) (after : Shares)
+  abbrev pub step_befell : (boxes : BoxesFacts) (old : PortFacts L) (before : Shares) (new : PortFacts L)
+      (after : Shares)
       → PortSteps facts opening boxes old before new after → List Befallen
   step_befell boxes old before new after steps = befell old.machine.connection (shut_for steps.turned.0.closed)
 
-  abbrev pub steps_befell : (boxes : BoxesFacts) (olds : List (PortFacts L)) (before : Shares) (news : List (PortFacts L)) (after : Shares)
+  abbrev pub steps_befell : (boxes : BoxesFacts) (olds : List (PortFacts L)) (before : Shares)
+      (news : List (PortFacts L)) (after : Shares)
       → Along (PortSteps facts opening boxes) olds before news after → List Befallen
   steps_befell boxes [] before [] after none = []
   steps_befell boxes [] before (new ∷ news) after none = []
@@ -142,6 +143,7 @@ module _ {L : Type 0} (facts : L → LinkFacts) (opening : Opening) where
       turned.steps.steps.stepped (shares_of new turned.worked) turned.steps.steps.along
 
   -- what befell the ports of a worker over turns, in order
-  abbrev pub befallen : (old : WorkerFacts L) (turns : List Turn) (new : WorkerFacts L) → TurnsTo (WorkerTurned facts opening) old turns new → List Befallen
+  abbrev pub befallen : (old : WorkerFacts L) (turns : List Turn) (new : WorkerFacts L)
+      → TurnsTo (WorkerTurned facts opening) old turns new → List Befallen
   befallen old [] new all = []
   befallen old (turn ∷ turns) new all = turn_befell old all.0 turn all.1 ++ befallen all.0 turns new all.2

@@ -1,22 +1,14 @@
 -- What a turn of a worker shows of its answer.
 use Rattle.std.specs.Prelude.{◌≡◌, ◌≢◌, ◌⊎◌, ℕ, Bool, true, false, List, [], ◌∷◌, ◌++◌, slice_get, Some}
-use Rattle.mum_crew.specs.Along.{EachAlong}
 use Rattle.mum_io.specs.Link.{LinkFacts}
-use Rattle.mum_outbox.specs.Calls.{one_more}
-use Rattle.mum_outbox.specs.Facts.{PassFacts}
-use Rattle.mum_port.specs.Did.{PortDid}
-use Rattle.mum_port.specs.Facts.{PortFacts}
-use Rattle.mum_port.specs.Life.{Steps}
-use Rattle.mum_port.specs.Turn.{IsIdle, did_nothing}
-use Rattle.mum_port.specs.declared.item.DeskItem.{DeskItem}
-use Rattle.mum_published.specs.Bell.{Rung, NoMore}
-use Rattle.mum_published.specs.Facts.{Opening}
+use Rattle.mum_outbox.specs.{Calls.one_more, Facts.PassFacts}
+use Rattle.mum_crew.specs.Along.{EachAlong}
+use Rattle.mum_published.specs.{Bell.Rung, Bell.NoMore, Facts.Opening}
 use Rattle.mum_session.specs.Machine.{Machine}
-use Rattle.mum_worker.specs.Boxes.{BoxesFacts}
-use Rattle.mum_worker.specs.Facts.{WorkerFacts, is_done, stays}
-use Rattle.mum_worker.specs.Routing.{RoutesPacket}
-use Rattle.mum_worker.specs.Stepping.{PortSteps}
-use Rattle.mum_worker.specs.Turning.{shares_of}
+use Rattle.mum_port.specs.{Did.PortDid, Facts.PortFacts, Life.Steps, Turn.IsIdle, Turn.did_nothing}
+use Rattle.mum_port.specs.declared.item.DeskItem.{DeskItem}
+use Rattle.mum_worker.specs.{Boxes.BoxesFacts, Facts.WorkerFacts, Facts.is_done, Facts.stays, Routing.RoutesPacket}
+use Rattle.mum_worker.specs.{Stepping.PortSteps, Turning.shares_of}
 
 -- the bell says that no connection comes any more
 abbrev pub is_no_more : {L : Type 0} → Rung L → Bool

@@ -1,13 +1,11 @@
 -- The closing entries of a worker's journal.
 use Rattle.std.specs.Prelude.{◌≡◌, ◌==◌, ℕ, Bool, true, false, Some, if◌then◌else◌}
-use Rattle.mum_base.specs.declared.number.Cause.TheVariants.{Lagged}
-use Rattle.mum_base.specs.declared.number.SessionId.{SessionId}
-use Rattle.mum_port.specs.Facts.{PortFacts}
-use Rattle.mum_port.specs.Stage.{is_closed}
+use Rattle.mum_base.specs.declared.number.{Cause.TheVariants.Lagged, SessionId.SessionId}
 use Rattle.mum_record.specs.declared.journal.WorkerEntry.{WorkerEntry}
-use Rattle.mum_record.specs.declared.journal.WorkerEntry.TheVariants as entries
 use Rattle.mum_session.specs.Machine.{session_of}
+use Rattle.mum_port.specs.{Facts.PortFacts, Stage.is_closed}
 use Rattle.mum_worker_laws.specs.Befallen.{Befallen, Shut}
+use Rattle.mum_record.specs.declared.journal.WorkerEntry.TheVariants as entries
 
 -- an entry that closes a connection of which this holds
 abbrev pub closes_one : (ℕ → Bool) → WorkerEntry → Bool

@@ -1,37 +1,29 @@
 -- The ports that a worker has over its turns, what happens to each of them, and what they put on the desk.
-use Rattle.std.specs.Prelude.{◌≡◌, ◌≢◌, ◌==◌, ◌<◌, ◌+◌, ⊤, ℕ, Bool, false, IsTrue, List, [], ◌∷◌, ◌++◌, All, filter, length, map, Option, Some, None, Result, Ok, Err, if◌then◌else◌, option_to_list}
 use mathlib.Core.Logic.{inl, inr}
+use Rattle.std.specs.Prelude.{◌≡◌, ◌≢◌, ◌==◌, ◌<◌, ◌+◌, ⊤, ℕ, Bool, false, IsTrue, List, [], ◌∷◌, ◌++◌, All, filter, length, map, Option, Some, None, Result, Ok, Err, if◌then◌else◌, option_to_list}
 use Rattle.std.specs.List.{filter_map, flat_map}
-use Rattle.mum_base.specs.declared.number.Cause.TheVariants.{End}
-use Rattle.mum_base.specs.declared.number.SessionId.{SessionId}
+use Rattle.mum_base.specs.declared.number.{Cause.TheVariants.End, SessionId.SessionId}
+use Rattle.mum_io.specs.Link.{LinkFacts}
+use Rattle.mum_frame.specs.{Frame.IsFrame, Frame.frame_spelling, Stream.IsFront, Stream.Splits}
+use Rattle.mum_frame.specs.declared.frame.Frame.{Frame}
+use Rattle.mum_voice.specs.Packet.{Parts, packet}
+use Rattle.mum_voice.specs.declared.fault.BadVoice.{BadVoice}
 use Rattle.mum_crew.specs.Turns.{TurnsTo}
 use Rattle.mum_crew.specs.declared.role.Turn.{Turn}
-use Rattle.mum_frame.specs.Frame.{IsFrame, frame_spelling}
-use Rattle.mum_frame.specs.Stream.{IsFront, Splits}
-use Rattle.mum_frame.specs.declared.frame.Frame.{Frame}
-use Rattle.mum_io.specs.Link.{LinkFacts}
-use Rattle.mum_port.specs.Did.{action_of}
-use Rattle.mum_port.specs.Facts.{PortFacts, new_port}
-use Rattle.mum_port.specs.Life.{Event, Lives, bytes_queued, bytes_taken, bytes_written, frames_handled, in_step, items_asked, items_put, words_said}
-use Rattle.mum_port.specs.Stage.{cause_of, is_closed}
-use Rattle.mum_port.specs.declared.item.DeskItem.TheVariants as items
-use Rattle.mum_port.specs.declared.item.DeskItem.{DeskItem}
 use Rattle.mum_published.specs.Bell.{Rung, Answer, Comes, Lagging, NoMore}
 use Rattle.mum_published.specs.Facts.{Opening}
 use Rattle.mum_session.specs.Machine.{Machine, session_of}
-use Rattle.mum_session.specs.declared.action.Action.TheVariants.{Voice}
-use Rattle.mum_session.specs.declared.action.Action.{Action}
-use Rattle.mum_voice.specs.Packet.{Parts, packet}
-use Rattle.mum_voice.specs.declared.fault.BadVoice.{BadVoice}
+use Rattle.mum_session.specs.declared.action.Action.{TheVariants.Voice, Action}
+use Rattle.mum_port.specs.{Did.action_of, Facts.PortFacts, Facts.new_port, Stage.cause_of, Stage.is_closed}
+use Rattle.mum_port.specs.Life.{Event, Lives, bytes_queued, bytes_taken, bytes_written, frames_handled, in_step, items_asked, items_put, words_said}
+use Rattle.mum_port.specs.declared.item.DeskItem.{DeskItem}
 use Rattle.mum_worker.specs.Facts.{WorkerFacts, is_of, intake_of, stays}
-use Rattle.mum_worker.specs.Hearing.{Hears, TakesOrTurns}
-use Rattle.mum_worker.specs.Record.{RecordFacts}
-use Rattle.mum_worker.specs.Routing.{RoutesPacket}
-use Rattle.mum_worker.specs.Intake.{worker_of}
-use Rattle.mum_worker.specs.Turning.{WorkerTurned}
+use Rattle.mum_worker.specs.{Hearing.Hears, Hearing.TakesOrTurns, Record.RecordFacts, Routing.RoutesPacket}
+use Rattle.mum_worker.specs.{Intake.worker_of, Turning.WorkerTurned}
 use Rattle.mum_worker.specs.declared.intake.Intake.{Intake}
-use Rattle.mum_worker_laws.specs.Laws.{Moment, Told, Looked, history}
+use Rattle.mum_worker_laws.specs.Laws.{Moment, Take, Told, Looked, Took, history, take_in, takes_by}
 use Rattle.mum_worker_laws.specs.Befallen.{Happening, befallen, happenings, happenings_of}
+use Rattle.mum_port.specs.declared.item.DeskItem.TheVariants as items
 
 -- ---- counting
 
@@ -81,8 +73,17 @@ packets_said events = flat_map (in_step (λ machine did. said_by machine (action
 -- a packet that was routed, where it is of this connection
 abbrev pub routed_of : ℕ → Moment → Option Said
 routed_of connection (Told reply) = None
+routed_of connection (Took takes learnt) = None
 routed_of connection (Looked look) =
     if look.connection == connection then Some (record { speaker = look.speaker; packet = look.packet }) else None
+
+-- what was taken by a port of this connection
+abbrev pub taken_of : ℕ → Moment → List Take
+taken_of connection moment = filter (λ take. take.connection == connection) (take_in moment)
+
+-- what a port took, in order
+abbrev pub parcels_taken : List Event → List Take
+parcels_taken events = flat_map (in_step takes_by) events
 
 -- ---- a port and its life
 
@@ -111,11 +112,18 @@ module _ {L : Type 0} where
 
   -- what befell the ports of one connection
   abbrev pub befell_all : ℕ → List (Life L) → List Happening
-  befell_all connection lives = flat_map (λ (life : Life L). happenings life.events) (filter (is_life_of connection) lives)
+  befell_all connection lives =
+      flat_map (λ (life : Life L). happenings life.events) (filter (is_life_of connection) lives)
 
   -- the packets that the ports of one connection said
   abbrev pub said_by_all : ℕ → List (Life L) → List Said
-  said_by_all connection lives = flat_map (λ (life : Life L). packets_said life.events) (filter (is_life_of connection) lives)
+  said_by_all connection lives =
+      flat_map (λ (life : Life L). packets_said life.events) (filter (is_life_of connection) lives)
+
+  -- what the ports of one connection took
+  abbrev pub taken_by_all : ℕ → List (Life L) → List Take
+  taken_by_all connection lives =
+      flat_map (λ (life : Life L). parcels_taken life.events) (filter (is_life_of connection) lives)
 
   -- a port of the connection that awaits a reply at first handles no frame
   abbrev pub HandlesNothing : ℕ → Life L → Type 0
@@ -129,18 +137,20 @@ module _ {L : Type 0} where
     pub link : L
     pub is : port ≡ new_port connection worker link
 
-  -- the frames that it handled are, each once and in order, the first of those of all bytes that it took: behind them
+  -- the frames that it handled are, each once and in order, the first of those of all bytes that it took: after them
   -- is, while it is open, what it keeps
   pub record HandlesInOrder (life : Life L) : Type 0 where
     pub behind : List ℕ
     pub bytes : bytes_taken life.events ≡ flat_map frame_spelling (frames_handled life.events) ++ behind
     pub each : All IsFrame (frames_handled life.events)
     pub kept : is_closed life.last.stage ≡ false → behind ≡ life.last.framer.kept
-    pub front : (frames : List Frame) (rest : List ℕ) → Splits (bytes_taken life.events) frames rest → IsFront (frames_handled life.events) frames
+    pub front : (frames : List Frame) (rest : List ℕ) → Splits (bytes_taken life.events) frames rest
+        → IsFront (frames_handled life.events) frames
     -- where it closed at the end of its link they are all of them
-    pub at_end : cause_of life.last.stage ≡ Some End → (rest : List ℕ) × Splits (bytes_taken life.events) (frames_handled life.events) rest
+    pub at_end : cause_of life.last.stage ≡ Some End
+        → (rest : List ℕ) × Splits (bytes_taken life.events) (frames_handled life.events) rest
 
-  -- what it wrote is the beginning of what it took to be written: behind it is, while it is open, what it keeps
+  -- what it wrote is the beginning of what it took to be written: after it is, while it is open, what it keeps
   pub record WritesInOrder (life : Life L) : Type 0 where
     pub behind : List ℕ
     pub bytes : bytes_queued life.events ≡ bytes_written life.events ++ behind
@@ -165,11 +175,13 @@ module _ {L : Type 0} where
 abbrev pub IsNoReplyTo : ℕ → Moment → Type 0
 IsNoReplyTo connection (Told reply) = reply.connection ≢ connection
 IsNoReplyTo connection (Looked look) = ⊤
+IsNoReplyTo connection (Took takes learnt) = ⊤
 
 -- no packet of this connection
 abbrev pub IsNoPacketOf : ℕ → Moment → Type 0
 IsNoPacketOf connection (Told reply) = ⊤
 IsNoPacketOf connection (Looked look) = look.connection ≢ connection
+IsNoPacketOf connection (Took takes learnt) = ⊤
 
 module _ {L : Type 0} where
   -- a port of the connection awaits a reply
@@ -188,7 +200,7 @@ module _ {L : Type 0} where
   abbrev pub IsBelow : PortFacts L → PortFacts L → Type 0
   IsBelow port later = IsAbove port.machine.connection later
 
-  -- its connection belongs to the worker of this number, of so many
+  -- its connection belongs to the worker of this number, of n
   abbrev pub IsOfWorker : ℕ → ℕ → PortFacts L → Type 0
   IsOfWorker number workers port = worker_of port.machine.connection workers ≡ number
 
@@ -235,13 +247,17 @@ module _ {L : Type 0} (facts : L → LinkFacts) (opening : Opening) where
     -- those that owe the desk nothing more were let go, and no other
     pub kept : new.ports ≡ filter stays (map (λ (life : Life L). life.last) lives)
     -- the desk got what they put there, each item once, and nothing else
-    pub put : (test : DeskItem → Bool) → count test new.desk.offered ≡ count test old.desk.offered + count test (put_by_all lives)
+    pub put : (test : DeskItem → Bool)
+        → count test new.desk.offered ≡ count test old.desk.offered + count test (put_by_all lives)
     -- what it got of a connection is what the port of this connection put there, in the same order
     pub order : (connection : ℕ)
         → items_of connection new.desk.offered ≡ items_of connection old.desk.offered ++ put_of connection lives
     -- the packets of a connection that were routed are those that the port of this connection said, each once and in order
     pub routed : (connection : ℕ)
         → filter_map (routed_of connection) (history facts opening old turns new all) ≡ said_by_all connection lives
+    -- the parcels that the ports of a connection took are those of its lives, each once and in order
+    pub taken : (connection : ℕ)
+        → flat_map (taken_of connection) (history facts opening old turns new all) ≡ taken_by_all connection lives
     -- each reply that came while a port of its connection was there was heard by that port, once, in order, and as it was: with
     -- its end, its bytes and the passes that it gave. No other reply was heard. And a port closed for what it is said to have
     pub befallen_to : (connection : ℕ)

@@ -3,9 +3,9 @@ use Rattle.std.specs.Prelude.{Bool, true, false, List}
 use Rattle.std.specs.List.{list_any}
 use Rattle.mum_base.specs.declared.reply.ReplyEnd.{ReplyEnd}
 use Rattle.mum_base.specs.declared.reply.ReplyEnd.TheVariants.{Joined, Decided, Rejected}
+use Rattle.mum_session.specs.Machine.{session_of}
 use Rattle.mum_port.specs.Did.{is_last}
 use Rattle.mum_port.specs.Life.{Event, lagged, replied, stepped}
-use Rattle.mum_session.specs.Machine.{session_of}
 
 abbrev pub is_rejection : ReplyEnd → Bool
 is_rejection (Joined session slot) = false

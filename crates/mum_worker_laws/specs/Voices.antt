@@ -1,12 +1,11 @@
 -- The voice entries of a worker's journal.
 use Rattle.std.specs.Prelude.{ℕ, List, length, map, Option, Some, None, Result, Ok}
-use Rattle.mum_record.specs.declared.journal.Marked.{Marked}
-use Rattle.mum_record.specs.declared.journal.WorkerEntry.{WorkerEntry}
-use Rattle.mum_record.specs.declared.journal.WorkerEntry.TheVariants as entries
-use Rattle.mum_router.specs.Offering.{mark_of}
 use Rattle.mum_voice.specs.Packet.{Parts, packet}
 use Rattle.mum_voice.specs.declared.fault.BadVoice.{BadVoice}
+use Rattle.mum_record.specs.declared.journal.{Marked.Marked, WorkerEntry.WorkerEntry}
+use Rattle.mum_router.specs.Offering.{mark_of}
 use Rattle.mum_worker_laws.specs.Laws.{Look}
+use Rattle.mum_record.specs.declared.journal.WorkerEntry.TheVariants as entries
 
 -- what a voice entry says: whose packet was routed, at which revision, as what its bytes are read, and what became of each
 -- copy

@@ -13,7 +13,7 @@ ghost use Rattle.mum_state.specs.declared.edit.Edit.{Edit};
 ghost use Rattle.mum_worker.specs.Facts.{WorkerFacts};
 ghost use Rattle.mum_worker.specs.Opening.{HasOpened};
 ghost use Rattle.mum_worker.specs.Turning.{Turned, WorkerTurned};
-ghost use Rattle.mum_worker_laws.specs.Laws.{AreOfOneList, Follows, HasLogin, SeesFrom, ask_made, copies_at, copies_made, history, login_made, looks_in, moments_of, packets_in};
+ghost use Rattle.mum_worker_laws.specs.Laws.{AreOfOneList, Follows, HasLogin, HoldsFor, IsTold, SeesFrom, ask_made, copies_at, copies_made, history, login_made, looks_in, moments_of, packets_in, takes_in};
 ghost use Rattle.mum_worker_laws.specs.Voices.{talk_in, talk_made};
 
 use mum_io::Link;
@@ -38,8 +38,9 @@ pub fn voice_entries_are_the_looks<L: Link>()
         ≡ map talk_made (looks_in (history L.facts opening opened turns worker all)) }
 {}
 
-/// What a look saw and what a reply told is never lost: each later packet is routed at a list of edits that begins
-/// with it. So revisions never fall, and the packet that follows a reply sees all of which the reply tells.
+/// What a look saw, what a reply reported and what was learnt of a parcel is never lost: each later packet is routed at
+/// a list of edits that begins with it. So revisions never fall, and the packet that follows a reply sees all that
+/// the reply reports.
 pub fn later_looks_see_more<L: Link>()
     ensures follows { (opening : Opening) (number : ℕ) (pass : PassFacts) (journal : Option ℕ)
         (opened worker : WorkerFacts L) (turns : List Turn) → HasOpened number pass journal opened →
@@ -50,6 +51,20 @@ pub fn later_looks_see_more<L: Link>()
         (opened worker : WorkerFacts L) (turns : List Turn) → HasOpened number pass journal opened →
         (all : TurnsTo (WorkerTurned L.facts opening) opened turns worker) →
         All (SeesFrom pass.known) (history L.facts opening opened turns worker all) }
+{}
+
+/// Nobody is sent what the rules would not give: each copy that a port takes is that of a packet which its session hears
+/// after a list of edits, each notice reports an edit of such a list, and the worker knows of these edits.
+pub fn parcels_are_by_the_rules<L: Link>()
+    ensures rules { (opening : Opening) (number : ℕ) (pass : PassFacts) (journal : Option ℕ)
+        (opened worker : WorkerFacts L) (turns : List Turn) → HasOpened number pass journal opened →
+        (all : TurnsTo (WorkerTurned L.facts opening) opened turns worker) →
+        All (IsTold opening worker.common.router.pass.known) (takes_in (history L.facts opening opened turns worker all)) }
+    // What was sent holds from then on: whoever took a notice speaks after the edit that it reports.
+    ensures holds { (opening : Opening) (number : ℕ) (pass : PassFacts) (journal : Option ℕ)
+        (opened worker : WorkerFacts L) (turns : List Turn) → HasOpened number pass journal opened →
+        (all : TurnsTo (WorkerTurned L.facts opening) opened turns worker) →
+        AllPairs HoldsFor (history L.facts opening opened turns worker all) }
 {}
 
 /// Nobody speaks for another: each packet is routed for a session that an accepted login gave to the connection that

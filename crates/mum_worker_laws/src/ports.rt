@@ -2,12 +2,12 @@
 //! nothing: each contract is a theorem.
 
 ghost use Rattle.std.specs.Prelude.{◌≡◌, ◌≢◌, ◌+◌, ◌++◌, IsTrue, ℕ, List, Option, Some};
-ghost use Rattle.std.specs.List.{All, AllPairs};
+ghost use Rattle.std.specs.List.{All, AllPairs, flat_map};
 ghost use Rattle.mum_base.specs.declared.number.Cause.TheVariants.{Kicked, Rejected};
 ghost use Rattle.mum_base.specs.declared.number.SessionId.{SessionId};
 ghost use Rattle.mum_crew.specs.Turns.{TurnsTo};
 ghost use Rattle.mum_crew.specs.declared.role.Turn.{Turn};
-ghost use Rattle.mum_port.specs.Did.{PortDid, asked_item, queued};
+ghost use Rattle.mum_port.specs.Did.{PortDid, action_of, asked_item, echo_of, queued};
 ghost use Rattle.mum_port.specs.Facts.{PortFacts};
 ghost use Rattle.mum_port.specs.Life.{Steps};
 ghost use Rattle.mum_port.specs.Stage.{cause_of};
@@ -21,7 +21,7 @@ ghost use Rattle.mum_worker.specs.Routing.{RoutesPacket};
 ghost use Rattle.mum_worker.specs.Turning.{WorkerTurned};
 ghost use Rattle.mum_worker_laws.specs.Befallen.{befallen, closings_in, closings_told, lags_befell};
 ghost use Rattle.mum_worker_laws.specs.Closings.{IsClosedWhere, IsShutByLag, is_closing_of, is_open_of};
-ghost use Rattle.mum_worker_laws.specs.Laws.{history};
+ghost use Rattle.mum_worker_laws.specs.Laws.{bytes_of_take, history, takes_by};
 ghost use Rattle.mum_worker_laws.specs.Parcels.{AreTakenInOrder};
 ghost use Rattle.mum_worker_laws.specs.Partings.{was_parted, was_rejected};
 ghost use Rattle.mum_worker_laws.specs.Lives.{AwaitsReply, HaveLived, IsAbove, IsBelow, IsNoPacketOf, IsNoReplyTo};
@@ -51,6 +51,12 @@ pub fn connections_rise<L: Link>()
         (ports_taken L.facts opening old turns worker all) }
 {}
 
+/// What a step of a port takes to be written is an echo, and then the frames of the parcels that it took for its session.
+pub fn parcels_are_written()
+    ensures { (machine : Machine) (did : PortDid) → queued machine did
+        ≡ echo_of (action_of machine did.handled) ++ flat_map bytes_of_take (takes_by machine did) }
+{}
+
 /// Each connection that was taken in has one `Closed` on the desk once its port is gone, and none while its port is
 /// kept: those that are there and the ports that are kept are together as many as were taken in.
 pub fn each_connection_closes_once<L: Link>()
@@ -65,7 +71,8 @@ pub fn each_connection_closes_once<L: Link>()
 /// it is open: those that are there and the open ports are together as many as were taken in.
 pub fn each_connection_has_one_closing_entry<L: Link>()
     ensures { (opening : Opening) (number : ℕ) (pass : PassFacts) (room : ℕ)
-        (opened worker : WorkerFacts L) (turns : List Turn) (connection : ℕ) → HasOpened number pass (Some room) opened →
+        (opened worker : WorkerFacts L) (turns : List Turn) (connection : ℕ)
+        → HasOpened number pass (Some room) opened →
         (all : TurnsTo (WorkerTurned L.facts opening) opened turns worker) →
         count (is_closing_of connection) worker.common.kept.entries + count (is_open_of connection) worker.ports
         ≡ count (is_of connection) (ports_taken L.facts opening opened turns worker all) }
@@ -88,7 +95,7 @@ pub fn a_lag_closes_the_ports_of_its_session<L: Link>()
         hears.each.stepped new.common.kept hears.each.along) }
 {}
 
-/// A port closes behind a rejection only where it heard one, and as one that was kicked only where it took the last
+/// A port closes after a rejection only where it heard one, and as one that was kicked only where it took the last
 /// parcel of its session; and then it has written all that it had.
 pub fn a_port_that_parts_has_written_all<L: Link>()
     ensures rejected { (opening : Opening) (life : Life L) → IsNew life.first → IsLife L.facts opening life →
@@ -133,7 +140,7 @@ pub fn ports_live<L: Link>()
 /// A connection that asked for a command, or brought a list of bans, is heard again once a reply was heard: no packet of it is routed
 /// before. That no frame of it is handled before is said of its life.
 pub fn a_reply_comes_before_the_next_packet<L: Link>()
-    // Behind such a frame its port awaits a reply.
+    // After such a frame its port awaits a reply.
     ensures awaits { (opening : Opening) (old new : PortFacts L) (machine : Machine) (did : PortDid) (item : DeskItem) →
         Steps L.facts (RoutesPacket opening) old machine did new →
         asked_item machine did.handled ≡ Some item → IsTrue new.machine.awaits }

@@ -11,8 +11,8 @@ use std::process::ExitCode;
 use std::rt::Env;
 use std::{env, io};
 
-/// The words of the command line, without the program's name. A word that is not UTF-8 is an error of
-/// the kind `InvalidData`.
+// The words of the command line, without the program's name. A word that is not UTF-8 is an error of
+// the kind `InvalidData`.
 fn words_of(rt: &(impl Env + AllocGlobal)) -> io::Result<Vec<String>> {
     Ok(env::args(rt)?.skip(1).collect(rt.alloc())?)
 }

@@ -5,8 +5,7 @@ use Rattle.mum_base.specs.declared.number.SessionId.{SessionId}
 use Rattle.mum_users.specs.declared.user.User.{User}
 use Rattle.mum_state.specs.State.{StateValue}
 use Rattle.mum_why.specs.Reason.{reason}
-use Rattle.murmur_why.specs.Names.{session_text}
-use Rattle.murmur_why.specs.Reasons.{reason_text}
+use Rattle.murmur_why.specs.{Names.session_text, Reasons.reason_text}
 
 -- the line of a session, with its line feed
 abbrev pub hearer_line : StateValue → SessionId → ℕ → SessionId → List ℕ

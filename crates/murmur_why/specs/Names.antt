@@ -1,10 +1,8 @@
--- Sessions, channels and entries of access control lists, each by its number and, behind it, its name.
+-- Sessions, channels and entries of access control lists, each by its number and, after it, its name.
 use Rattle.std.specs.Prelude.{ℕ, List, [], ◌∷◌, ◌++◌, codes, decimal, Option, slice_get, option_and_then}
 use Rattle.std.specs.Option.{option_map_or}
-use Rattle.mum_base.specs.declared.number.ChannelId.{ChannelId}
-use Rattle.mum_base.specs.declared.number.SessionId.{SessionId}
-use Rattle.mum_policy.specs.declared.policy.AclEntry.{AclEntry}
-use Rattle.mum_policy.specs.declared.policy.Whom.{Whom}
+use Rattle.mum_base.specs.declared.number.{ChannelId.ChannelId, SessionId.SessionId}
+use Rattle.mum_policy.specs.declared.policy.{AclEntry.AclEntry, Whom.Whom}
 use Rattle.mum_policy.specs.declared.policy.Whom.TheVariants.{Account, Group}
 use Rattle.mum_tree.specs.Rows.{row_of}
 use Rattle.mum_users.specs.Sessions.{session_of}

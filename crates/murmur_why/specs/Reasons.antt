@@ -1,13 +1,11 @@
 -- Why a session does not hear another, and what takes a permission away, in words.
 use Rattle.std.specs.Prelude.{ℕ, ◌==◌, List, ◌++◌, codes, decimal, Option, Some, None, if◌then◌else◌}
 use Rattle.mum_base.specs.declared.number.ChannelId.{ChannelId}
-use Rattle.mum_route.specs.declared.context.Context.{Context}
-use Rattle.mum_route.specs.declared.context.Context.TheVariants.{ChannelWhisper, DirectWhisper, Listener, Talk}
-use Rattle.mum_route.specs.declared.routes.TheConstants.{TALK}
 use Rattle.mum_state.specs.State.{StateValue}
-use Rattle.mum_why.specs.declared.cut.Cut.{Cut}
+use Rattle.mum_route.specs.declared.{context.Context.Context, routes.TheConstants.TALK}
+use Rattle.mum_route.specs.declared.context.Context.TheVariants.{ChannelWhisper, DirectWhisper, Listener, Talk}
+use Rattle.mum_why.specs.declared.{cut.Cut.Cut, reason.Reason.Reason}
 use Rattle.mum_why.specs.declared.cut.Cut.TheVariants.{Closed, Denied, NeverGiven, RootOnly, SuperUser}
-use Rattle.mum_why.specs.declared.reason.Reason.{Reason}
 use Rattle.mum_why.specs.declared.reason.Reason.TheVariants.{Deaf, DeafenedItself, Heard, ItIsItself, ListenerLacks, ListenerOutsideGroup, Muted, MutedItself, NoHearer, NoSpeaker, OnlyLoopback, OutsideGroup, SpeakerLacks, SpeakerLacksAtListener, Suppressed, Uncovered, Unset}
 use Rattle.murmur_why.specs.Names.{channel_text, entry_text}
 

@@ -1,9 +1,7 @@
 -- What the words of the command line ask for.
 use Rattle.std.specs.Prelude.{ℕ, List, [], ◌∷◌, Option, Some, None, codes, option_and_then, if◌then◌else◌}
-use Rattle.std.specs.Option.{option_map}
-use Rattle.std.specs.Str.{bytes_eq}
-use Rattle.mum_base.specs.declared.number.ChannelId.{ChannelId}
-use Rattle.mum_base.specs.declared.number.SessionId.{SessionId}
+use Rattle.std.specs.{Option.option_map, Str.bytes_eq}
+use Rattle.mum_base.specs.declared.number.{ChannelId.ChannelId, SessionId.SessionId}
 use Rattle.mum_record.specs.Words.{number_within, place_of, revision_of}
 use Rattle.mum_route.specs.declared.routes.TheConstants.{LOOPBACK}
 use Rattle.murmur_why.specs.declared.words.Command.{Command}
@@ -36,12 +34,13 @@ number_if_given [] = Some None
 number_if_given (word ∷ []) = option_map Some (revision_of word)
 number_if_given (word ∷ more ∷ others) = None
 
--- the words behind the verb
+-- the words after the verb
 unfoldable pub heard_of : List (List ℕ) → Option Command
 heard_of [] = None
 heard_of (line ∷ []) = option_map (λ (l : Option ℕ). Heard l None) (every_or line)
 heard_of (line ∷ session ∷ []) =
-    option_and_then (λ (l : Option ℕ). option_map (λ (s : SessionId). Heard l (Some s)) (session_of session)) (every_or line)
+    option_and_then (λ (l : Option ℕ). option_map (λ (s : SessionId). Heard l (Some s)) (session_of session))
+    (every_or line)
 heard_of (line ∷ session ∷ more ∷ others) = None
 
 unfoldable pub who_of : List (List ℕ) → Option Command

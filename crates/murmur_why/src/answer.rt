@@ -60,7 +60,7 @@ fn write_answer<O: Sink>(
     }
 }
 
-/// Writes what is asked about an input, and how that ended. The document is the different one that is asked about.
+// Writes what is asked about an input, and how that ended. The document is the different one that is asked about.
 pub(crate) fn answer_input<I: Source, O: Sink>(
     alloc: Global,
     command: Command,

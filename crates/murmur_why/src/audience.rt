@@ -9,7 +9,7 @@ use mum_route::{Audience, Hearer, LOOPBACK};
 use mum_tree::Scratch;
 use std::alloc::Global;
 
-/// Who hears a packet at a revision; nobody where its speaker or the revision is not there.
+// Who hears a packet at a revision; nobody where its speaker or the revision is not there.
 pub(crate) fn audience_at(
     alloc: Global,
     states: &mut States,
@@ -40,7 +40,7 @@ fn is_same(here: &Hearer, there: &Hearer) -> bool {
     here.session == there.session && here.context == there.context
 }
 
-/// Whether two audiences are one.
+// Whether two audiences are one.
 pub(crate) fn are_same(here: &[Hearer], there: &[Hearer]) -> bool {
     if here.len() != there.len() {
         return false;
@@ -62,7 +62,7 @@ fn push_hearer(alloc: Global, text: &mut String, hearer: &Hearer) -> Result<(), 
     push_number(alloc, text, u64::from(hearer.context))
 }
 
-/// Appends how many hear, and each of them with the context.
+// Appends how many hear, and each of them with the context.
 pub(crate) fn push_audience(
     alloc: Global,
     text: &mut String,

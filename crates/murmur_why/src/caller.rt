@@ -6,7 +6,7 @@ use mum_msg_state::{Message, MessageFault, Version};
 use std::alloc::{AllocError, Global};
 use std::collections::VecDeque;
 
-/// A connection of a recording.
+// A connection of a recording.
 #[derive(Drop)]
 pub(crate) struct Caller {
     pub worker: u32,
@@ -35,7 +35,7 @@ fn version_after(
 }
 
 impl Caller {
-    /// A connection of a worker that asked for nothing yet.
+    // A connection of a worker that asked for nothing yet.
     pub(crate) fn new(alloc: Global, worker: u32) -> Caller {
         Caller {
             worker,
@@ -45,13 +45,13 @@ impl Caller {
         }
     }
 
-    /// Its frame asks for a command.
+    // Its frame asks for a command.
     pub(crate) fn ask(&mut self, alloc: Global, bytes: &[u8]) -> Result<(), OutOfMemory> {
         self.waiting.push_back(Some(Octets::of(alloc, bytes)?))?;
         Ok(())
     }
 
-    /// Its leave is asked for, once.
+    // Its leave is asked for, once.
     pub(crate) fn leave(&mut self) -> Result<(), OutOfMemory> {
         if self.leaves {
             return Ok(());
@@ -61,13 +61,13 @@ impl Caller {
         Ok(())
     }
 
-    /// Its frame is a Version.
+    // Its frame is a Version.
     pub(crate) fn keep(&mut self, alloc: Global, bytes: &[u8]) -> Result<(), OutOfMemory> {
         self.version = version_after(alloc, self.version, bytes)?;
         Ok(())
     }
 
-    /// What is decided next.
+    // What is decided next.
     pub(crate) fn next(&mut self) -> Option<Option<Octets>> {
         self.waiting.pop_front()
     }

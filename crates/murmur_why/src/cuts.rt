@@ -31,13 +31,14 @@ fn push_closed(
     state: &State,
     channel: ChannelId,
 ) -> Result<(), OutOfMemory>
-    ensures { IfOk result (λ _. string_bytes text.new ≡ string_bytes text.old ++ cut_text state.now (Cut.Closed channel)) }
+    ensures { IfOk result
+        (λ _. string_bytes text.new ≡ string_bytes text.old ++ cut_text state.now (Cut.Closed channel)) }
 {
     text.push_str("no way through ")?;
     push_channel(alloc, text, state, channel)
 }
 
-/// Appends what takes a permission away.
+// Appends what takes a permission away.
 pub(crate) fn push_cut(
     alloc: Global,
     text: &mut String,
@@ -55,7 +56,7 @@ pub(crate) fn push_cut(
     }
 }
 
-/// Appends that a permission is missing in a channel, and what takes it away.
+// Appends that a permission is missing in a channel, and what takes it away.
 pub(crate) fn push_lacks(
     alloc: Global,
     text: &mut String,

@@ -5,7 +5,7 @@ use mum_io::{Sink, write_all};
 use mum_record::{Word, push_line};
 use std::alloc::{AllocError, Global};
 
-/// How a run ends.
+// How a run ends.
 #[derive(Drop)]
 pub(crate) enum End {
     /// What was asked is answered.
@@ -65,7 +65,7 @@ const USAGE: &str = "usage: murmur-why heard LINE|- [SESSION] | who SESSION TARG
 
 const MEMORY: &str = "murmur-why: 70 OutOfMemory\n";
 
-// Appends what is said of the end of a run: a word behind its status, and what it is about.
+// Appends what is said of the end of a run: a word after its status, and what it is about.
 fn push_end(alloc: Global, text: &mut String, end: &End) -> Result<(), OutOfMemory> {
     match end {
         End::Finished => Ok(()),
@@ -162,7 +162,7 @@ fn say<E: Sink>(errors: &mut E, line: &str) {
     let _ = write_all(errors, line.as_bytes());
 }
 
-/// Says how a run ended on the error stream, and gives its status.
+// Says how a run ended on the error stream, and gives its status.
 pub(crate) fn report<E: Sink>(alloc: Global, end: &End, errors: &mut E) -> u8 {
     match line_of(alloc, end) {
         Ok(line) => {

@@ -56,7 +56,7 @@ fn push_packet(
     push_answer(alloc, text, states, said, session, scratch)
 }
 
-/// Writes a text.
+// Writes a text.
 pub(crate) fn write<O: Sink>(output: &mut O, text: &str) -> Result<(), End> {
     match write_all(output, text.as_bytes()) {
         Ok(()) => Ok(()),
@@ -95,7 +95,7 @@ fn write_packets<O: Sink>(
     Ok(count)
 }
 
-/// Writes who hears the packet of a line, or each packet, and why the others do not.
+// Writes who hears the packet of a line, or each packet, and why the others do not.
 pub(crate) fn write_heard<O: Sink>(
     alloc: Global,
     story: &mut Story,
@@ -117,7 +117,7 @@ pub(crate) fn write_heard<O: Sink>(
     }
 }
 
-/// A revision that is named, or the last one; or that there is none such.
+// A revision that is named, or the last one; or that there is none such.
 pub(crate) fn revision_of(states: &States, named: Option<u64>) -> Result<u64, End>
     ensures { IfOk result (λ revision. revision ≤ length states.now.past.accepted) }
 {
@@ -129,7 +129,7 @@ pub(crate) fn revision_of(states: &States, named: Option<u64>) -> Result<u64, En
     Ok(revision)
 }
 
-/// Writes who would hear what a session says to a target at a revision, and why the others would not.
+// Writes who would hear what a session says to a target at a revision, and why the others would not.
 pub(crate) fn write_who<O: Sink>(
     alloc: Global,
     story: &mut Story,

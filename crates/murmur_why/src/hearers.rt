@@ -12,7 +12,7 @@ use mum_tree::Scratch;
 use mum_users::User;
 use std::alloc::Global;
 
-/// Who says something at a revision, to which target.
+// Who says something at a revision, to which target.
 #[derive(Clone, Copy)]
 pub(crate) struct Said {
     pub revision: u64,
@@ -57,7 +57,7 @@ fn push_hearers(
     Ok(())
 }
 
-/// Appends the line of one session, or those of all that are there, in the order of their slots.
+// Appends the line of one session, or those of all that are there, in the order of their slots.
 pub(crate) fn push_lines(
     alloc: Global,
     text: &mut String,
@@ -72,7 +72,7 @@ pub(crate) fn push_lines(
     }
 }
 
-/// Appends the revision, who says something and to which target, and a line feed.
+// Appends the revision, who says something and to which target, and a line feed.
 pub(crate) fn push_said(
     alloc: Global,
     text: &mut String,

@@ -106,7 +106,7 @@ fn story_of(alloc: Global, journal: Journal) -> Result<Story, End>
     }
 }
 
-/// What a journal says, or its first fault.
+// What a journal says, or its first fault.
 pub(crate) fn story_in(alloc: Global, text: &[u8]) -> Result<Story, End> {
     match read_journal(alloc, text) {
         Ok(journal) => return story_of(alloc, journal),

@@ -8,7 +8,7 @@ use mum_base::{ChannelId, SessionId};
 use mum_io::Sink;
 use std::alloc::Global;
 
-/// Writes what a session may do in a channel at a revision, and what takes the rest away.
+// Writes what a session may do in a channel at a revision, and what takes the rest away.
 pub(crate) fn write_may<O: Sink>(
     alloc: Global,
     story: &mut Story,

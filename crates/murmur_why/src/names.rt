@@ -1,4 +1,4 @@
-//! Sessions, channels and entries of access control lists, each by its number and, behind it, its name.
+//! Sessions, channels and entries of access control lists, each by its number and, after it, its name.
 
 ghost use Rattle.std.specs.Prelude.{◌≡◌, ◌++◌, ◌∷◌, IfOk, string_bytes};
 ghost use Rattle.std.specs.Option.{option_copied};
@@ -12,14 +12,14 @@ use mum_record::{Word, push_word};
 use mum_state::State;
 use std::alloc::Global;
 
-/// Appends a number.
+// Appends a number.
 pub(crate) fn push_number(alloc: Global, text: &mut String, number: u64) -> Result<(), OutOfMemory>
     ensures { IfOk result (λ _. string_bytes text.new ≡ string_bytes text.old ++ decimal number) }
 {
     push_word(alloc, text, &Word::Number(number))
 }
 
-// Appends a name behind a space.
+// Appends a name after a space.
 fn push_name(text: &mut String, name: &str) -> Result<(), OutOfMemory>
     ensures { IfOk result (λ _. string_bytes text.new ≡ string_bytes text.old ++ 32 ∷ name.now) }
 {
@@ -27,7 +27,7 @@ fn push_name(text: &mut String, name: &str) -> Result<(), OutOfMemory>
     text.push_str(name)
 }
 
-/// Appends a session.
+// Appends a session.
 pub(crate) fn push_session(
     alloc: Global,
     text: &mut String,
@@ -43,7 +43,7 @@ pub(crate) fn push_session(
     }
 }
 
-/// Appends a channel.
+// Appends a channel.
 pub(crate) fn push_channel(
     alloc: Global,
     text: &mut String,
@@ -101,7 +101,7 @@ fn push_place(
     push_channel(alloc, text, state, channel)
 }
 
-/// Appends an entry of the access control list of a channel: its place, the channel, and whom it is for.
+// Appends an entry of the access control list of a channel: its place, the channel, and whom it is for.
 pub(crate) fn push_entry(
     alloc: Global,
     text: &mut String,

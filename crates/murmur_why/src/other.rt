@@ -56,7 +56,7 @@ fn push_packet(
     text.push_str("\n")
 }
 
-/// A command: its line, and what was decided here and there.
+// A command: its line, and what was decided here and there.
 #[derive(Clone, Copy)]
 struct Decided {
     line: u64,
@@ -108,7 +108,7 @@ fn decide_there(
     })
 }
 
-/// How far the commands were decided under the other configuration.
+// How far the commands were decided under the other configuration.
 #[derive(Drop)]
 struct Course {
     /// The revision there after as many commands.
@@ -172,7 +172,7 @@ fn write_commands<O: Sink>(
     Ok(())
 }
 
-/// Who hears a packet here and there.
+// Who hears a packet here and there.
 #[derive(Drop)]
 struct Audiences {
     here: Audience,
@@ -249,8 +249,8 @@ fn compare<O: Sink>(
     )
 }
 
-/// Writes each command and each packet whose verdict or audience differs under a different document, up to the first
-/// command that changes which numbers are given.
+// Writes each command and each packet whose verdict or audience differs under a different document, up to the first
+// command that changes which numbers are given.
 pub(crate) fn write_other<O: Sink>(
     alloc: Global,
     story: &mut Story,

@@ -33,7 +33,7 @@ fn push_packet(
     Ok(())
 }
 
-// Appends the packets of a worker whose first entry is at a line, and gives the line behind its last.
+// Appends the packets of a worker whose first entry is at a line, and gives the line after its last.
 fn push_packets(
     packets: &mut Vec<Spoken>,
     first: u64,
@@ -47,7 +47,7 @@ fn push_packets(
     Ok(line)
 }
 
-/// Appends the packets of all workers, where the line of the first worker's number is this one.
+// Appends the packets of all workers, where the line of the first worker's number is this one.
 pub(crate) fn push_all(
     packets: &mut Vec<Spoken>,
     first: u64,

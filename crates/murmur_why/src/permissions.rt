@@ -35,9 +35,9 @@ fn push_permission(
     state: &State,
     session: SessionId,
     channel: ChannelId,
-    permission: Perm,
-    name: &str,
+    row: (Perm, &str),
 ) -> Result<(), OutOfMemory> {
+    let (permission, name) = row;
     push_number(alloc, text, u64::from(permission.0))?;
     text.push_str(" ")?;
     text.push_str(name)?;
@@ -57,8 +57,8 @@ fn push_permissions(
     session: SessionId,
     channel: ChannelId,
 ) -> Result<(), OutOfMemory> {
-    for (permission, name) in PERMISSIONS.iter() {
-        push_permission(alloc, text, state, session, channel, *permission, name)?;
+    for row in PERMISSIONS.iter() {
+        push_permission(alloc, text, state, session, channel, *row)?;
     }
     Ok(())
 }
@@ -86,7 +86,7 @@ fn are_there(state: &State, session: SessionId, channel: ChannelId) -> bool {
     state.roster().session(session).is_some() && state.tree().channel(channel).is_some()
 }
 
-/// Appends all lines.
+// Appends all lines.
 pub(crate) fn push_answer(
     alloc: Global,
     text: &mut String,

@@ -137,7 +137,7 @@ fn push_listener_outside(
     push_outside(alloc, text, state, index, channel)
 }
 
-/// Appends the reason why a session does not hear another, or how it does.
+// Appends the reason why a session does not hear another, or how it does.
 pub(crate) fn push_reason(
     alloc: Global,
     text: &mut String,

@@ -16,7 +16,7 @@ use mum_state::State;
 use std::alloc::Global;
 use std::mem::drop;
 
-/// What is above the steps.
+// What is above the steps.
 #[derive(Drop)]
 struct Head {
     version: Version,
@@ -79,7 +79,7 @@ fn head_of(alloc: Global, text: &[u8]) -> Result<(Head, &[u8]), End> {
     Ok((head, rest))
 }
 
-/// The state at which steps and entries begin, by limits and a document; or the first fault of the document.
+// The state at which steps and entries begin, by limits and a document; or the first fault of the document.
 pub(crate) fn opening_of(
     alloc: Global,
     limits: &Option<Limits>,
@@ -148,7 +148,7 @@ fn story_below(
     }
 }
 
-/// What a recording says, or its first fault.
+// What a recording says, or its first fault.
 pub(crate) fn story_in(alloc: Global, text: &[u8]) -> Result<Story, End> {
     let (head, rest) = head_of(alloc, text)?;
     let mut core = core_of(alloc, &head)?;

@@ -33,7 +33,7 @@ fn counted_reason<L: Ledger>(
     reason_for(state, speaker, hearer, target, scratch, &mut steps)
 }
 
-/// Why a session does not hear what another says to a target, or in which context it does.
+// Why a session does not hear what another says to a target, or in which context it does.
 pub(crate) fn reason(
     state: &State,
     speaker: SessionId,
@@ -63,7 +63,7 @@ fn counted_cut<L: Ledger>(
     cut_for(state, session, channel, permission, &mut steps)
 }
 
-/// What takes a permission away from a session in a channel; none where it has it, or one of the two is not there.
+// What takes a permission away from a session in a channel; none where it has it, or one of the two is not there.
 pub(crate) fn cut(
     state: &State,
     session: SessionId,
@@ -94,7 +94,7 @@ fn counted_route<L: Ledger>(
     route_into(state, speaker, target, scratch, &mut steps, audience);
 }
 
-/// Fills the audience with those who hear what a session says to a target.
+// Fills the audience with those who hear what a session says to a target.
 pub(crate) fn hear(
     state: &State,
     speaker: SessionId,

@@ -16,7 +16,7 @@ use mum_voice::Packet;
 use std::alloc::Global;
 use std::mem::drop;
 
-/// A packet that a worker holds.
+// A packet that a worker holds.
 #[derive(Clone, Copy)]
 struct Held {
     worker: u32,
@@ -24,7 +24,7 @@ struct Held {
     target: u8,
 }
 
-/// What was said so far, and what waits to be decided.
+// What was said so far, and what waits to be decided.
 #[derive(Drop)]
 pub(crate) struct Run {
     alloc: Global,
@@ -46,7 +46,7 @@ fn target_in(bytes: &[u8]) -> Option<u8> {
     }
 }
 
-// The session that was told to lag, if the line says so.
+// The session whose connection is to lag, if the line says so.
 fn lagged(told: &str) -> Option<SessionId> {
     let Some(("lagged", word)) = told.split_once(' ') else {
         return None;
@@ -63,7 +63,7 @@ fn is_of(states: &States, connection: u32, session: SessionId) -> bool {
 }
 
 impl Run {
-    /// A run that took no step yet.
+    // A run that took no step yet.
     pub(crate) fn new(alloc: Global, story: Story) -> Run {
         Run {
             alloc,
@@ -75,12 +75,12 @@ impl Run {
         }
     }
 
-    /// Whether the last step was taken.
+    // Whether the last step was taken.
     pub(crate) fn is_over(&self) -> bool {
         self.over
     }
 
-    /// All that was said.
+    // All that was said.
     pub(crate) fn into_story(self) -> Story {
         let Run { story, callers, .. } = self;
         drop(callers);
@@ -130,7 +130,7 @@ impl Run {
         })
     }
 
-    // What was told of a frame.
+    // What was reported of a frame.
     fn framed(&mut self, connection: u32, bytes: &[u8], told: &str) -> Result<(), OutOfMemory> {
         let alloc = self.alloc;
         if told.starts_with("heard") {
@@ -218,7 +218,7 @@ impl Run {
         }
     }
 
-    // Notes a step that was taken, by what was told of it.
+    // Notes a step that was taken, by what was reported of it.
     fn note(&mut self, line: u64, step: &Step, told: &str) -> Result<(), OutOfMemory> {
         match step {
             Step::Open { worker, .. } => self.opened(*worker),
@@ -266,7 +266,7 @@ fn take(
     Ok(())
 }
 
-/// Takes a line.
+// Takes a line.
 pub(crate) fn take_line(
     alloc: Global,
     core: &mut PlainCore,

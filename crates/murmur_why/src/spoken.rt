@@ -1,6 +1,6 @@
 //! Packets that workers looked for.
 
-/// A packet: its line, who sent it, and the revision at which a worker looked who hears it.
+// A packet: its line, who sent it, and the revision at which a worker looked who hears it.
 #[derive(Clone, Copy)]
 pub(crate) struct Spoken {
     pub line: u64,

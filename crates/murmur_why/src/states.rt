@@ -12,7 +12,7 @@ use mum_state::{Edit, State};
 use std::alloc::{AllocError, Global};
 use std::marker::Model;
 
-/// What the commands so far leave, and a state that goes along the accepted edits behind them.
+// What the commands so far leave, and a state that goes along the accepted edits after them.
 #[derive(Drop)]
 pub(crate) struct States {
     past: Past,
@@ -47,7 +47,7 @@ impl States {
     ghost use Rattle.std.specs.Prelude.{◌≡◌, ◌≤◌, OnOk, length};
     ghost use Rattle.mum_state.specs.After.{at};
 
-    /// Before all commands, from an opening on.
+    // Before all commands, from an opening on.
     pub(crate) fn begin(alloc: Global, opening: State) -> Result<States, OutOfMemory> {
         let (history, mut views) = readers(alloc, 1, opening)?;
         let Some(view) = views.pop() else {
@@ -60,33 +60,33 @@ impl States {
         })
     }
 
-    /// The session that a connection got by its login.
+    // The session that a connection got by its login.
     pub(crate) fn session(&self, connection: u32) -> Option<SessionId> {
         self.past.session(connection)
     }
 
-    /// The accepted edits.
+    // The accepted edits.
     pub(crate) fn accepted(&self) -> &[Edit]
         ensures { result.now ≡ self.now.past.accepted }
     {
         self.past.history().accepted()
     }
 
-    /// How many edits were accepted.
+    // How many edits were accepted.
     pub(crate) fn last_revision(&self) -> u64
         ensures { result ≡ length self.now.past.accepted }
     {
         self.past.history().revision()
     }
 
-    /// The state to which it went last.
+    // The state to which it went last.
     pub(crate) fn state(&self) -> &State
         ensures { result.now ≡ self.now.state }
     {
         self.view.state()
     }
 
-    /// Decides the next command. One that has neither a frame nor is a leave is passed over: no text has one.
+    // Decides the next command. One that has neither a frame nor is a leave is passed over: no text has one.
     #[tactic(auto, using(crate::proofs::Behind::stays_behind))]
     pub(crate) fn decide(
         &mut self,
@@ -105,7 +105,7 @@ impl States {
         Ok(mark)
     }
 
-    /// Goes to the state after the first accepted edits.
+    // Goes to the state after the first accepted edits.
     pub(crate) fn go_to(&mut self, alloc: Global, revision: u64) -> Result<(), OutOfMemory>
         requires accepted { revision ≤ length self.old.past.accepted }
         ensures past { OnOk result (self.new.past ≡ self.old.past) }

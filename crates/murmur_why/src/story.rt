@@ -7,7 +7,7 @@ use mum_record::{ControlEntry, Limits};
 use mum_state::State;
 use std::alloc::Global;
 
-/// The commands that were decided and the packets that workers looked for, each with its line.
+// The commands that were decided and the packets that workers looked for, each with its line.
 #[derive(Drop)]
 pub(crate) struct Story {
     pub limits: Option<Limits>,
@@ -21,7 +21,7 @@ pub(crate) struct Story {
 }
 
 impl Story {
-    /// Before all commands and packets, from an opening on.
+    // Before all commands and packets, from an opening on.
     pub(crate) fn begin(
         alloc: Global,
         limits: Option<Limits>,
@@ -35,7 +35,7 @@ impl Story {
             packets: Vec::new(alloc),
         })
     }
-    /// Decides a command in a line.
+    // Decides a command in a line.
     pub(crate) fn decide(
         &mut self,
         alloc: Global,

@@ -10,7 +10,7 @@ use mum_record::{Word, push_line};
 use mum_state::Edit;
 use std::alloc::Global;
 
-/// What an accepted command gives a number of its own.
+// What an accepted command gives a number of its own.
 #[derive(Clone, Copy, PartialEq, Eq)]
 pub(crate) enum Made {
     Session(SessionId),
@@ -26,7 +26,7 @@ fn made_by(edit: &Edit) -> Option<Made> {
     }
 }
 
-/// What an accepted command gives a number, if it does.
+// What an accepted command gives a number, if it does.
 pub(crate) fn number_given(states: &States, mark: Mark) -> Option<Made> {
     let Mark::Accepted { revision } = mark else {
         return None;
@@ -35,7 +35,7 @@ pub(crate) fn number_given(states: &States, mark: Mark) -> Option<Made> {
     made_by(states.accepted().get(place)?)
 }
 
-/// Whether two verdicts are one, whatever their revisions.
+// Whether two verdicts are one, whatever their revisions.
 pub(crate) fn is_same(here: Mark, there: Mark) -> bool {
     match (here, there) {
         (Mark::Accepted { .. }, Mark::Accepted { .. }) => true,
@@ -51,7 +51,7 @@ fn push_pair(alloc: Global, text: &mut String, word: &str, number: u64) -> Resul
     push_line(alloc, text, word, &[Word::Number(number)])
 }
 
-/// Appends a verdict.
+// Appends a verdict.
 pub(crate) fn push_verdict(alloc: Global, text: &mut String, mark: Mark) -> Result<(), OutOfMemory>
     ensures { IfOk result (λ _. string_bytes text.new ≡ string_bytes text.old
         ++ line_of_words (verdict_words mark)) }
@@ -72,7 +72,7 @@ pub(crate) fn push_verdict(alloc: Global, text: &mut String, mark: Mark) -> Resu
     }
 }
 
-/// Appends what is given a number.
+// Appends what is given a number.
 pub(crate) fn push_made(alloc: Global, text: &mut String, made: Made) -> Result<(), OutOfMemory> {
     match made {
         Made::Session(session) => push_line(

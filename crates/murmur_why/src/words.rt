@@ -9,7 +9,7 @@ use mum_base::{ChannelId, SessionId};
 use mum_record::number_within;
 use mum_route::LOOPBACK;
 
-/// What the program is asked.
+// What the program is asked.
 #[derive(Clone, Copy)]
 pub(crate) enum Command {
     /// Who hears the packet of a line, or each packet where none is named, and why the others do not; or whether one
@@ -34,10 +34,10 @@ pub(crate) enum Command {
     Other,
 }
 
-/// The greatest number of a session or a channel, which fits 32 bits.
+// The greatest number of a session or a channel, which fits 32 bits.
 const GREATEST_PLACE: u64 = 0xFFFF_FFFF;
 
-/// The greatest number of a line or a revision, which fits 64 bits.
+// The greatest number of a line or a revision, which fits 64 bits.
 const GREATEST_NUMBER: u64 = 0xFFFF_FFFF_FFFF_FFFF;
 
 // The number of 32 bits that a word says.
@@ -55,7 +55,7 @@ fn number_in(word: &str) -> Option<u64>
     number_within(0, GREATEST_NUMBER, word)
 }
 
-/// The session that a word names.
+// The session that a word names.
 #[tactic(auto, unfolding(crate::specs::Words::session_of))]
 pub(crate) fn session_in(word: &str) -> Option<SessionId>
     ensures { result ≡ spec.session_of word.now }
@@ -109,7 +109,7 @@ fn number_if_given(words: &[String]) -> Option<Option<u64>>
     }
 }
 
-// The words behind `heard`.
+// The words after `heard`.
 #[tactic(auto, unfolding(crate::specs::Words::heard_of))]
 fn heard_in(words: &[String]) -> Option<Command>
     ensures { result ≡ heard_of (map string_bytes words.now) }
@@ -134,7 +134,7 @@ fn heard_in(words: &[String]) -> Option<Command>
     }
 }
 
-// The words behind `who`.
+// The words after `who`.
 #[tactic(auto, unfolding(crate::specs::Words::who_of))]
 fn who_in(words: &[String]) -> Option<Command>
     ensures { result ≡ who_of (map string_bytes words.now) }
@@ -152,7 +152,7 @@ fn who_in(words: &[String]) -> Option<Command>
     })
 }
 
-// The words behind `may`.
+// The words after `may`.
 #[tactic(auto, unfolding(crate::specs::Words::may_of))]
 fn may_in(words: &[String]) -> Option<Command>
     ensures { result ≡ may_of (map string_bytes words.now) }
@@ -170,7 +170,7 @@ fn may_in(words: &[String]) -> Option<Command>
     })
 }
 
-// That one word is behind `other`.
+// That one word is after `other`.
 #[tactic(auto, unfolding(crate::specs::Words::other_of))]
 fn other_in(words: &[String]) -> Option<Command>
     ensures { result ≡ spec.other_of (map string_bytes words.now) }
@@ -181,7 +181,7 @@ fn other_in(words: &[String]) -> Option<Command>
     }
 }
 
-/// What the words ask for; none where they have no such form.
+// What the words ask for; none where they have no such form.
 #[tactic(auto, unfolding(crate::specs::Words::command_of))]
 pub(crate) fn command_of(words: &[String]) -> Option<Command>
     ensures { result ≡ spec.command_of (map string_bytes words.now) }

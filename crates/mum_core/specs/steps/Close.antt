@@ -1,16 +1,12 @@
--- A connection ends, for a cause that stands. Its leave waits to be decided.
+-- A connection ends, for a cause that applies. Its leave waits to be decided.
 use Rattle.std.specs.Prelude.{ℕ, ◌==◌, not, Bool, true, false, List, [], ◌∷◌, codes, decimal}
-use Rattle.std.specs.List.{list_any}
-use Rattle.std.specs.Option.{option_map_or}
-use Rattle.mum_base.specs.declared.number.Cause.{Cause}
-use Rattle.mum_base.specs.declared.number.Cause.TheVariants as causes
-use Rattle.mum_base.specs.declared.number.SessionId.{SessionId}
+use Rattle.std.specs.{List.list_any, Option.option_map_or}
+use Rattle.mum_base.specs.declared.number.{Cause.Cause, SessionId.SessionId}
 use Rattle.mum_record.specs.Grammar.{cause_word}
-use Rattle.mum_state.specs.declared.edit.Edit.{Edit}
-use Rattle.mum_state.specs.declared.edit.Edit.TheVariants.{Kick}
-use Rattle.mum_core.specs.Case.{Case, is_closed, not_opened}
-use Rattle.mum_core.specs.Connection.{closed_at, session_of}
+use Rattle.mum_state.specs.declared.edit.Edit.{Edit, TheVariants.Kick}
+use Rattle.mum_core.specs.{Case.Case, Case.is_closed, Case.not_opened, Connection.closed_at, Connection.session_of}
 use Rattle.mum_core.specs.Core.{CoreState, connection_at, at_connection, up}
+use Rattle.mum_base.specs.declared.number.Cause.TheVariants as causes
 
 abbrev pub kicks : SessionId → Edit → Bool
 kicks session (Kick kicked actor reason ban) = kicked.0 == session.0
@@ -20,7 +16,7 @@ kicks session others = false
 abbrev pub was_kicked : CoreState → SessionId → Bool
 was_kicked core session = list_any (kicks session) core.accepted
 
--- whether a connection may end for a cause: its login was told as rejected, its session was kicked, or a notice for
+-- whether a connection may end for a cause: its login was reported as rejected, its session was kicked, or a notice for
 -- its session found the posts of its slot full
 abbrev pub has_cause : CoreState → ℕ → Cause → Bool
 has_cause core c causes.Rejected = (connection_at core c).rejected

@@ -2,8 +2,7 @@
 use Rattle.std.specs.Prelude.{drop, slice_get}
 use Rattle.std.specs.Option.{option_map}
 use Rattle.mum_notify.specs.declared.notice.Notice.{Notice}
-use Rattle.mum_core.specs.Core.{at_posts, posts_at}
-use Rattle.mum_core.specs.Delivery.{Delivery, Queues}
+use Rattle.mum_core.specs.{Core.at_posts, Core.posts_at, Delivery.Delivery, Delivery.Queues}
 
 -- a notice comes on the wire as the frame that it is
 abbrev pub framed : Notice → Delivery

@@ -4,8 +4,7 @@ use Rattle.std.specs.Option.{option_map}
 use Rattle.mum_frame.specs.declared.kind.TheConstants.{UDP_TUNNEL}
 use Rattle.mum_frame.specs.Frame.{spelling_of}
 use Rattle.mum_core.specs.declared.outbox.Parcel.{Parcel}
-use Rattle.mum_core.specs.Core.{at_outbox, outbox_at}
-use Rattle.mum_core.specs.Delivery.{Delivery, Queues}
+use Rattle.mum_core.specs.{Core.at_outbox, Core.outbox_at, Delivery.Delivery, Delivery.Queues}
 
 -- a copy comes on the wire as the frame that carries it
 abbrev pub carried : Parcel → Delivery

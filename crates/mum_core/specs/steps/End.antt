@@ -1,8 +1,7 @@
 -- The recording ends.
 use Rattle.std.specs.Prelude.{ℕ, List, [], ◌∷◌, codes, decimal}
 use Rattle.mum_core.specs.declared.machine.Totals.{Totals}
-use Rattle.mum_core.specs.Case.{Case}
-use Rattle.mum_core.specs.Core.{CoreState}
+use Rattle.mum_core.specs.{Case.Case, Core.CoreState}
 
 abbrev pub forbids : List Case
 forbids = []

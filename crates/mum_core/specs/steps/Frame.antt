@@ -1,17 +1,17 @@
 -- The worker of a connection takes a frame.
 use Rattle.std.specs.Prelude.{ℕ, List, [], ◌∷◌, Option, Some, None, Result, Ok, Err, nat_lt, codes, decimal}
 use Rattle.hex.specs.Hex.{encode_lower}
-use Rattle.mum_voice.specs.declared.fault.BadVoice.{BadVoice}
-use Rattle.mum_voice.specs.Packet.{Parts, packet}
 use Rattle.mum_base.specs.Codes.{reason_code}
 use Rattle.mum_base.specs.declared.outcome.Reason.TheVariants.{NotRead}
+use Rattle.mum_voice.specs.declared.fault.BadVoice.{BadVoice}
+use Rattle.mum_voice.specs.Packet.{Parts, packet}
 use Rattle.mum_session.specs.declared.action.Action.{Action}
 use Rattle.mum_session.specs.declared.action.Action.TheVariants.{Ask, Voice, Echo, Keep, Ignore, Bans}
 use Rattle.mum_core.specs.declared.connection.Seat.{Seat}
 use Rattle.mum_core.specs.Case.{Case, is_closed, not_opened}
 use Rattle.mum_core.specs.Connection.{asking, is_untold, untold}
-use Rattle.mum_core.specs.Core.{CoreState, connection_at, worker_at, at_connection, at_worker}
 use Rattle.mum_core.specs.Worker.{HeldPacket, WorkerState, in_hand}
+use Rattle.mum_core.specs.Core.{CoreState, connection_at, worker_at, at_connection, at_worker}
 
 abbrev pub forbids : CoreState → ℕ → List Case
 forbids core c =
@@ -37,10 +37,11 @@ abbrev pub hears : CoreState → ℕ → Option HeldPacket → CoreState
 hears core w None = core
 hears core w (Some held) = at_worker w (λ worker. holding held worker) core
 
--- what an action changes of the core, where the connection has told this version. No frame of a recording asks for bans
+-- what an action changes of the core, where the connection has sent this version. No frame of a recording asks for bans
 abbrev pub does : CoreState → ℕ → Option ℕ → Action → CoreState
 does core c version (Ask command) = at_connection c (asking command.what) core
-does core c version (Voice payload) = hears core (connection_at core c).worker (spoken (connection_at core c).seat (packet payload))
+does core c version (Voice payload) =
+    hears core (connection_at core c).worker (spoken (connection_at core c).seat (packet payload))
 does core c version Keep = at_connection c (λ connection. record connection { version = version }) core
 does core c version others = core
 

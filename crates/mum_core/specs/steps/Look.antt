@@ -4,9 +4,8 @@ use Rattle.mum_state.specs.State.{StateValue}
 use Rattle.mum_route.specs.declared.hearer.Hearer.{Hearer}
 use Rattle.mum_route.specs.Hearers.{copy_for, hearers_at}
 use Rattle.mum_core.specs.declared.worker.Outgoing.{Outgoing}
-use Rattle.mum_core.specs.Case.{Case, no_worker}
+use Rattle.mum_core.specs.{Case.Case, Case.no_worker, Worker.HeldPacket, Worker.WorkerState, Worker.least_look}
 use Rattle.mum_core.specs.Core.{CoreState, worker_at, state_at, at_worker, up}
-use Rattle.mum_core.specs.Worker.{HeldPacket, WorkerState, least_look}
 
 abbrev pub forbids : CoreState → ℕ → ℕ → List Case
 forbids core w revision =

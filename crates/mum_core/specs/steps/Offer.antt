@@ -2,9 +2,8 @@
 use Rattle.std.specs.Prelude.{ℕ, Bool, true, false, List, [], ◌∷◌, ◌++◌, length, drop, Option, Some, None, is_none, nat_lt, slice_get, codes, decimal, if◌then◌else◌}
 use Rattle.mum_base.specs.declared.number.TheConstants.{VOICE_CAPACITY}
 use Rattle.mum_core.specs.declared.{outbox.Parcel.Parcel, worker.Outgoing.Outgoing}
-use Rattle.mum_core.specs.Case.{Case, no_worker}
+use Rattle.mum_core.specs.{Case.Case, Case.no_worker, Worker.WorkerState}
 use Rattle.mum_core.specs.Core.{CoreState, worker_at, outbox_at, at_worker, at_outbox, up}
-use Rattle.mum_core.specs.Worker.{WorkerState}
 
 -- the copy that a worker offers next, if one is left
 abbrev pub next_copy : CoreState → ℕ → Option Outgoing

@@ -1,8 +1,6 @@
 -- A connection begins at a worker.
 use Rattle.std.specs.Prelude.{ℕ, ◌+◌, ◌==◌, not, List, [], ◌∷◌, ◌++◌, length, codes, decimal}
-use Rattle.mum_core.specs.Case.{Case, no_worker}
-use Rattle.mum_core.specs.Connection.{fresh}
-use Rattle.mum_core.specs.Core.{CoreState}
+use Rattle.mum_core.specs.{Case.Case, Case.no_worker, Connection.fresh, Core.CoreState}
 
 abbrev pub forbids : CoreState → ℕ → ℕ → List Case
 forbids core c w =

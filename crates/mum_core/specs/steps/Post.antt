@@ -1,10 +1,9 @@
 -- The first pending notice goes to the posts of its slot, where these have room. Else it is dropped, and its session
 -- leaves.
 use Rattle.std.specs.Prelude.{ℕ, Bool, true, false, List, [], ◌∷◌, ◌++◌, length, drop, Option, Some, None, is_none, nat_lt, slice_get, codes, decimal, if◌then◌else◌}
-use Rattle.mum_notify.specs.declared.notice.Notice.{Notice}
 use Rattle.mum_base.specs.declared.number.TheConstants.{POST_CAPACITY}
-use Rattle.mum_core.specs.Case.{Case}
-use Rattle.mum_core.specs.Connection.{lagging}
+use Rattle.mum_notify.specs.declared.notice.Notice.{Notice}
+use Rattle.mum_core.specs.{Case.Case, Connection.lagging}
 use Rattle.mum_core.specs.Core.{CoreState, at_posts, at_session, posts_at, up}
 
 -- the notice that is posted next, if one is pending

@@ -1,7 +1,6 @@
 -- All accepted edits are published.
 use Rattle.std.specs.Prelude.{ℕ, List, [], ◌∷◌, length, codes, decimal}
-use Rattle.mum_core.specs.Case.{Case}
-use Rattle.mum_core.specs.Core.{CoreState}
+use Rattle.mum_core.specs.{Case.Case, Core.CoreState}
 
 abbrev pub forbids : List Case
 forbids = []

@@ -3,13 +3,11 @@ use Rattle.std.specs.Prelude.{ℕ, ◌==◌, max, not, Bool, false, List, [], �
 use Rattle.std.specs.Option.{option_map_or}
 use Rattle.mum_record.specs.Grammar.{revision_word}
 use Rattle.mum_core.specs.declared.connection.Reply.{Reply}
-use Rattle.mum_core.specs.Case.{Case, not_opened}
+use Rattle.mum_core.specs.{Case.Case, Case.not_opened, Line.wire_words, Worker.WorkerState}
 use Rattle.mum_core.specs.Connection.{is_accepted, revision_of, told, wire_of}
 use Rattle.mum_core.specs.Core.{CoreState, connection_at, at_connection, at_worker}
-use Rattle.mum_core.specs.Line.{wire_words}
-use Rattle.mum_core.specs.Worker.{WorkerState}
 
--- whether a reply tells of an accepted edit, and of which revision
+-- whether a reply reports an accepted edit, and of which revision
 abbrev pub has_edit : Option Reply → Bool
 has_edit reply = option_map_or (λ reply. is_accepted reply.mark) reply false
 
@@ -32,7 +30,7 @@ forbids core c revision =
     ∷ record { stands = is_none decided; given = c; against = 0 }
     ∷ note_cases core decided revision
 
--- a worker that is told a revision
+-- a worker that is notified of a revision
 abbrev pub noted : ℕ → WorkerState → WorkerState
 noted revision worker = record worker { told = max worker.told revision }
 

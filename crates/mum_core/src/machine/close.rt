@@ -16,7 +16,7 @@ use mum_base::{Cause, SessionId};
 use mum_record::{Word, cause_name, push_line};
 use mum_state::Edit;
 
-/// Whether an edit puts a session out.
+// Whether an edit puts a session out.
 fn kicks(session: SessionId, edit: &Edit) -> bool
     ensures { result ≡ kicks session edit.now }
 {
@@ -29,8 +29,8 @@ fn kicks(session: SessionId, edit: &Edit) -> bool
     }
 }
 
-/// Whether one of the edits puts a session out. The last is looked at first, since a connection ends
-/// soon after its session was put out.
+// Whether one of the edits puts a session out. The last is looked at first, since a connection ends
+// soon after its session was kicked.
 fn one_kicks(edits: &[Edit], session: SessionId) -> bool
     ensures { result ≡ list_any (kicks session) (reverse edits.now) }
 {
@@ -38,14 +38,14 @@ fn one_kicks(edits: &[Edit], session: SessionId) -> bool
 }
 
 impl Machine {
-    /// Whether an accepted edit put a session out.
+    // Whether an accepted edit put a session out.
     fn was_kicked(&self, session: SessionId) -> bool
         ensures { result ≡ was_kicked self.now session }
     {
         one_kicks(self.history.accepted(), session)
     }
 
-    /// Whether the session of a connection was put out.
+    // Whether the session of a connection was kicked.
     fn is_kicked(&self, found: &Connection) -> bool
         ensures { result ≡ option_map_or (was_kicked self.now) (session_of found.now) false }
     {
@@ -55,7 +55,7 @@ impl Machine {
         }
     }
 
-    /// Whether a connection may end for a cause.
+    // Whether a connection may end for a cause.
     fn has_cause(&self, connection: u32, found: &Connection, cause: Cause) -> bool
         requires { found.now ≡ connection_at self.now connection }
         ensures { result ≡ has_cause self.now connection cause }
@@ -68,7 +68,7 @@ impl Machine {
         }
     }
 
-    /// Refuses a close that is not allowed.
+    // Refuses a close that is not allowed.
     fn check_close(&self, connection: u32, cause: Cause) -> Result<(), StepFault>
         ensures passes { Passes (first_that_stands (forbids self.now connection cause)) result }
         ensures opened { OnOk result (is_opened self.now connection ≡ true) }

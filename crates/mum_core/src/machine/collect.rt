@@ -39,7 +39,8 @@ impl Machine {
         text: &mut String,
     ) -> Result<(), StepFault>
         ensures settled { Settles named_cause (first_that_stands (forbids self.old connection)) (does notice_queues self.old connection) self.old result self.new }
-        ensures told { OnOk result (string_bytes text.new ≡ string_bytes text.old ++ joined (lines notice_queues self.old connection)) }
+        ensures told { OnOk result
+            (string_bytes text.new ≡ string_bytes text.old ++ joined (lines notice_queues self.old connection)) }
     {
         let seat = self.seated(connection)?;
         let slot = seat.slot.index();

@@ -12,7 +12,7 @@ use mum_base::{OutOfMemory, SessionId};
 use mum_record::{Word, push_line};
 use std::alloc::Global;
 
-/// What waits for a session.
+// What waits for a session.
 pub(super) trait Waiting {
     ghost delivery: { Self → Delivery };
 
@@ -27,7 +27,9 @@ pub(super) trait Waiting {
         text: &mut String,
         connection: u32,
     ) -> Result<(), OutOfMemory>
-        ensures { IfOk result (λ _. string_bytes text.new ≡ string_bytes text.old ++ joined (wire_words connection (delivery self.now).frame ∷ [])) };
+        ensures { IfOk result
+            (λ _. string_bytes text.new
+            ≡ string_bytes text.old ++ joined (wire_words connection (delivery self.now).frame ∷ [])) };
 }
 
 fn is_for(recipient: SessionId, seat: &Seat) -> bool
@@ -36,20 +38,21 @@ fn is_for(recipient: SessionId, seat: &Seat) -> bool
     recipient.0 == seat.session.0
 }
 
-/// Appends the line of a connection in whose slot nothing waits.
+// Appends the line of a connection in whose slot nothing waits.
 pub(super) fn push_empty(
     alloc: Global,
     text: &mut String,
     connection: u32,
     seat: &Seat,
 ) -> Result<(), OutOfMemory>
-    ensures { IfOk result (λ _. string_bytes text.new ≡ string_bytes text.old ++ joined (line connection seat.now None ∷ [])) }
+    ensures { IfOk result
+        (λ _. string_bytes text.new ≡ string_bytes text.old ++ joined (line connection seat.now None ∷ [])) }
 {
     push_line(alloc, text, "empty", &[Word::Number(u64::from(connection))])
 }
 
-/// Appends the line of what a connection with this seat takes. Whether that is for the session of the
-/// seat.
+// Appends the line of what a connection with this seat takes. Whether that is for the session of the
+// seat.
 pub(super) fn push_taken<W: Waiting>(
     alloc: Global,
     text: &mut String,
@@ -57,7 +60,9 @@ pub(super) fn push_taken<W: Waiting>(
     seat: &Seat,
     oldest: &W,
 ) -> Result<bool, OutOfMemory>
-    ensures line { IfOk result (λ _. string_bytes text.new ≡ string_bytes text.old ++ joined (line connection seat.now (Some (W.delivery oldest.now)) ∷ [])) }
+    ensures line { IfOk result
+        (λ _. string_bytes text.new
+        ≡ string_bytes text.old ++ joined (line connection seat.now (Some (W.delivery oldest.now)) ∷ [])) }
     ensures own { IfOk result (λ own. own ≡ is_for (W.delivery oldest.now).to seat.now) }
 {
     if is_for(oldest.recipient(), seat) {
@@ -69,10 +74,11 @@ pub(super) fn push_taken<W: Waiting>(
 }
 
 impl Machine {
-    /// The seat of a connection that takes what waits in its slot: it is not closed.
+    // The seat of a connection that takes what waits in its slot: it is not closed.
     pub(super) fn seated(&self, connection: u32) -> Result<Seat, StepFault>
         ensures { MatchResult result
-            (λ seat. (first_that_stands (forbids self.now connection) ≡ None) × ((connection_at self.now connection).seat ≡ Some seat))
+            (λ seat. (first_that_stands (forbids self.now connection) ≡ None)
+            × ((connection_at self.now connection).seat ≡ Some seat))
             (λ fault. first_that_stands (forbids self.now connection) ≡ named_cause fault) }
     {
         let Some(found) = self.connection(connection) else {
@@ -87,7 +93,7 @@ impl Machine {
         }
     }
 
-    /// What was taken is counted as stale, unless it is for the session of the seat.
+    // What was taken is counted as stale, unless it is for the session of the seat.
     pub(super) fn count_stale(&mut self, own: bool)
         ensures { self.new ≡ (if own then self.old else with_stale self.old) }
     {

@@ -37,7 +37,8 @@ impl Waiting for Parcel {
 impl Machine {
     pub(super) fn take_drain(&mut self, connection: u32, text: &mut String) -> Result<(), StepFault>
         ensures settled { Settles named_cause (first_that_stands (forbids self.old connection)) (does copy_queues self.old connection) self.old result self.new }
-        ensures told { OnOk result (string_bytes text.new ≡ string_bytes text.old ++ joined (lines copy_queues self.old connection)) }
+        ensures told { OnOk result
+            (string_bytes text.new ≡ string_bytes text.old ++ joined (lines copy_queues self.old connection)) }
     {
         let seat = self.seated(connection)?;
         let slot = seat.slot.index();

@@ -33,7 +33,7 @@ use mum_state::{Edit, State, Verdict};
 use std::alloc::Global;
 use std::mem::drop;
 
-/// Appends a line of a word, the connection and one more number.
+// Appends a line of a word, the connection and one more number.
 fn push_number(
     alloc: Global,
     text: &mut String,
@@ -48,7 +48,7 @@ fn push_number(
     push_line(alloc, text, verb, &words)
 }
 
-/// Appends the line that tells what was decided of a connection's command.
+// Appends the line that reports what was decided of a connection's command.
 fn push_mark(
     alloc: Global,
     text: &mut String,
@@ -80,7 +80,7 @@ fn push_mark(
     }
 }
 
-/// Appends the line that tells a verdict, and gives what the connection is answered.
+// Appends the line that reports a verdict, and gives what the connection is answered.
 fn tell_verdict(
     alloc: Global,
     text: &mut String,
@@ -98,7 +98,7 @@ fn tell_verdict(
     reply(alloc, revision, session, verdict)
 }
 
-/// Appends the edit of a verdict, if it is one, and the notices that tell of it.
+// Appends the edit of a verdict, if it is one, and the notices that report it.
 fn accept(
     alloc: Global,
     history: &mut History,
@@ -107,7 +107,8 @@ fn accept(
 ) -> Result<(), OutOfMemory>
     requires fits { FitsWhereAccepted (current history.old) verdict }
     requires frame { AllByRecursion FitsFrame (edits_of verdict) }
-    ensures ok { OnOk result (history.new ≡ record history.old { accepted = history.old.accepted ++ edits_of verdict }) }
+    ensures ok { OnOk result
+        (history.new ≡ record history.old { accepted = history.old.accepted ++ edits_of verdict }) }
     ensures told { OnOk result (pending.new ≡ pending.old ++ noticed (current history.old) verdict) }
     ensures err { OnErr result (history.new ≡ history.old) }
     ensures none_told { OnErr result (pending.new ≡ pending.old) }
@@ -119,7 +120,7 @@ fn accept(
 }
 
 impl Machine {
-    /// The connection whose next command this step decides.
+    // The connection whose next command this step decides.
     fn actor_from(&self, connection: u32) -> Result<&Connection, StepFault>
         ensures opened { OnOk result (is_opened self.now connection ≡ true) }
         ensures asks { MatchResult result
@@ -137,20 +138,22 @@ impl Machine {
         Ok(found)
     }
 
-    /// The revision of the next edit that is accepted.
+    // The revision of the next edit that is accepted.
     fn next_revision(&self) -> u64
         ensures { result ≡ next_revision self.now }
     {
         self.history.accepted().len() as u64 + 1
     }
 
-    /// The next command of a connection is decided so, and answered by this reply.
+    // The next command of a connection is decided so, and answered by this reply.
     #[tactic(auto, using(mum_history::proofs::Fronts::all_views_stay))]
     fn settle(&mut self, connection: u32, verdict: Verdict, reply: Reply) -> Result<(), OutOfMemory>
         requires opened { is_opened self.old connection ≡ true }
         requires fits { FitsWhereAccepted (core_current self.old) verdict }
         requires frame { AllByRecursion FitsFrame (edits_of verdict) }
-        ensures ok { OnOk result (self.new ≡ with_reply self.old connection (edits_of verdict) (noticed (core_current self.old) verdict) reply) }
+        ensures ok { OnOk result
+            (self.new ≡ with_reply self.old connection (edits_of verdict)
+            (noticed (core_current self.old) verdict) reply) }
         ensures err { OnErr result (self.new ≡ self.old) }
     {
         accept(self.alloc, &mut self.history, &mut self.pending, verdict)?;
@@ -160,7 +163,8 @@ impl Machine {
 
     pub(super) fn take_edit(&mut self, connection: u32, text: &mut String) -> Result<(), StepFault>
         ensures settled { Settles named_cause (first_that_stands (forbids self.old connection)) (does self.old connection) self.old result self.new }
-        ensures told { OnOk result (string_bytes text.new ≡ string_bytes text.old ++ joined (lines self.old connection)) }
+        ensures told { OnOk result
+            (string_bytes text.new ≡ string_bytes text.old ++ joined (lines self.old connection)) }
     {
         let actor_from = self.actor_from(connection)?;
         let session = actor_from.session();

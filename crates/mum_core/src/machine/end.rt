@@ -12,9 +12,10 @@ use mum_base::OutOfMemory;
 use mum_record::{Word, push_line};
 use std::alloc::Global;
 
-/// Appends the line that tells the totals.
+// Appends the line that reports the totals.
 fn push_totals(alloc: Global, text: &mut String, totals: &Totals) -> Result<(), OutOfMemory>
-    ensures { IfOk result (λ _. string_bytes text.new ≡ string_bytes text.old ++ joined (totals_words totals.now ∷ [])) }
+    ensures { IfOk result
+        (λ _. string_bytes text.new ≡ string_bytes text.old ++ joined (totals_words totals.now ∷ [])) }
 {
     let words = [
         Word::Name("looks"),

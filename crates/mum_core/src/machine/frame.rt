@@ -25,7 +25,7 @@ use mum_voice::Packet;
 use std::alloc::Global;
 use std::mem::drop;
 
-/// The frame that bytes are, with a payload of its own.
+// The frame that bytes are, with a payload of its own.
 fn frame_of(alloc: Global, bytes: &[u8]) -> Result<Frame, OutOfMemory>
     requires { IsOneFrame bytes.now }
     ensures kind { IfOk result (λ frame. frame.kind ≡ kind_of bytes.now) }
@@ -38,7 +38,7 @@ fn frame_of(alloc: Global, bytes: &[u8]) -> Result<Frame, OutOfMemory>
     })
 }
 
-/// What the frame of a connection asks for, and the version that the connection has told by then.
+// What the frame of a connection asks for, and the version that the connection has sent by then.
 fn asked_by(
     alloc: Global,
     connection: &Connection,
@@ -46,8 +46,12 @@ fn asked_by(
     bytes: &[u8],
 ) -> Result<(Action, Option<u32>), OutOfMemory>
     requires { IsOneFrame bytes.now }
-    ensures action { IfOk result (λ asked. asked.0 ≡ session_action (machine_of number connection.now) (kind_of bytes.now) (payload_of bytes.now)) }
-    ensures version { IfOk result (λ asked. asked.1 ≡ (after_frame (machine_of number connection.now) (kind_of bytes.now) (payload_of bytes.now)).version) }
+    ensures action { IfOk result
+        (λ asked. asked.0
+        ≡ session_action (machine_of number connection.now) (kind_of bytes.now) (payload_of bytes.now)) }
+    ensures version { IfOk result
+        (λ asked. asked.1
+        ≡ (after_frame (machine_of number connection.now) (kind_of bytes.now) (payload_of bytes.now)).version) }
 {
     let mut machine = connection.machine(number);
     let action = machine.frame(alloc, frame_of(alloc, bytes)?)?;
@@ -86,7 +90,7 @@ impl Machine {
         self.act(connection, version, action, text)
     }
 
-    /// What a frame asks for is done. The connection has told this version.
+    // What a frame asks for is done. The connection has sent this version.
     fn act(
         &mut self,
         connection: u32,
@@ -108,11 +112,12 @@ impl Machine {
         }
     }
 
-    /// The command of a frame waits to be decided.
+    // The command of a frame waits to be decided.
     fn ask(&mut self, connection: u32, command: Command, text: &mut String) -> Result<(), StepFault>
         requires { is_opened self.old connection ≡ true }
         ensures settled { Settles named_cause None (does self.old connection None (Ask command)) self.old result self.new }
-        ensures told { OnOk result (string_bytes text.new ≡ string_bytes text.old ++ joined (lines connection (Ask command))) }
+        ensures told { OnOk result
+            (string_bytes text.new ≡ string_bytes text.old ++ joined (lines connection (Ask command))) }
     {
         let number = Word::Number(u64::from(connection));
         if let Err(error) = push_line(self.alloc, text, "asked", &[number]) {
@@ -123,10 +128,11 @@ impl Machine {
         Ok(())
     }
 
-    /// A Ping is answered by this frame.
+    // A Ping is answered by this frame.
     fn echo(&self, connection: u32, frame: &Octets, text: &mut String) -> Result<(), StepFault>
         ensures settled { Settles named_cause None self.now self.now result self.now }
-        ensures told { OnOk result (string_bytes text.new ≡ string_bytes text.old ++ joined (lines connection (Echo frame.now))) }
+        ensures told { OnOk result
+            (string_bytes text.new ≡ string_bytes text.old ++ joined (lines connection (Echo frame.now))) }
     {
         let words = [
             Word::Number(u64::from(connection)),
@@ -136,7 +142,7 @@ impl Machine {
         Ok(())
     }
 
-    /// The connection has told this version.
+    // The connection has sent this version.
     fn keep(
         &mut self,
         connection: u32,
@@ -153,10 +159,11 @@ impl Machine {
         Ok(())
     }
 
-    /// A frame is passed over, for this reason.
+    // A frame is passed over, for this reason.
     fn ignore(&self, connection: u32, why: u8, text: &mut String) -> Result<(), StepFault>
         ensures settled { Settles named_cause None self.now self.now result self.now }
-        ensures told { OnOk result (string_bytes text.new ≡ string_bytes text.old ++ joined (lines connection (Ignore why))) }
+        ensures told { OnOk result
+            (string_bytes text.new ≡ string_bytes text.old ++ joined (lines connection (Ignore why))) }
     {
         let words = [
             Word::Number(u64::from(connection)),
@@ -166,13 +173,14 @@ impl Machine {
         Ok(())
     }
 
-    /// The worker of a connection takes a voice packet.
+    // The worker of a connection takes a voice packet.
     fn hear(&mut self, connection: u32, payload: Octets, text: &mut String) -> Result<(), StepFault>
         requires { is_opened self.old connection ≡ true }
         ensures settled { Settles named_cause None
             (hears self.old (connection_at self.old connection).worker (spoken (connection_at self.old connection).seat (packet payload)))
             self.old result self.new }
-        ensures told { OnOk result (string_bytes text.new ≡ string_bytes text.old ++ joined (heard_line connection (packet payload) ∷ [])) }
+        ensures told { OnOk result
+            (string_bytes text.new ≡ string_bytes text.old ++ joined (heard_line connection (packet payload) ∷ [])) }
     {
         let number = Word::Number(u64::from(connection));
         if let Err(fault) = Packet::parse(payload.as_slice()) {
@@ -185,11 +193,13 @@ impl Machine {
         Ok(())
     }
 
-    /// The worker of a connection holds a packet of the session that sits there.
+    // The worker of a connection holds a packet of the session that sits there.
     fn hold(&mut self, connection: u32, payload: Octets)
         requires opened { is_opened self.old connection ≡ true }
         requires parses { IsOk (packet payload) }
-        ensures { self.new ≡ hears self.old (connection_at self.old connection).worker (spoken (connection_at self.old connection).seat (packet payload)) }
+        ensures { self.new
+            ≡ hears self.old (connection_at self.old connection).worker
+            (spoken (connection_at self.old connection).seat (packet payload)) }
     {
         let place = connection as usize - 1;
         let worker = self.connections[place].worker as usize;

@@ -27,7 +27,7 @@ use mum_tree::Scratch;
 use std::alloc::Global;
 use std::collections::VecDeque;
 
-/// Appends a session and how the packet reaches it, behind a space.
+// Appends a session and how the packet reaches it, after a space.
 fn push_hearer(alloc: Global, text: &mut String, hearer: &Hearer) -> Result<(), OutOfMemory>
     ensures { IfOk result (λ _. string_bytes text.new ≡ string_bytes text.old ++ 32 ∷ hearer_word hearer.now) }
 {
@@ -37,9 +37,11 @@ fn push_hearer(alloc: Global, text: &mut String, hearer: &Hearer) -> Result<(), 
     push_word(alloc, text, &Word::Number(u64::from(hearer.context)))
 }
 
-/// Appends these sessions, each behind a space.
+// Appends these sessions, each after a space.
 fn push_hearers(alloc: Global, text: &mut String, hearers: &[Hearer]) -> Result<(), OutOfMemory>
-    ensures { IfOk result (λ _. string_bytes text.new ≡ string_bytes text.old ++ flat_map (λ hearer. 32 ∷ hearer_word hearer) hearers.now) }
+    ensures { IfOk result
+        (λ _. string_bytes text.new
+        ≡ string_bytes text.old ++ flat_map (λ hearer. 32 ∷ hearer_word hearer) hearers.now) }
 {
     for hearer in hearers {
         push_hearer(alloc, text, hearer)?;
@@ -47,7 +49,7 @@ fn push_hearers(alloc: Global, text: &mut String, hearers: &[Hearer]) -> Result<
     Ok(())
 }
 
-/// Appends the line that a look tells.
+// Appends the line that a look reports.
 fn push_route(
     alloc: Global,
     text: &mut String,
@@ -55,7 +57,8 @@ fn push_route(
     revision: u64,
     hearers: &[Hearer],
 ) -> Result<(), OutOfMemory>
-    ensures { IfOk result (λ _. string_bytes text.new ≡ string_bytes text.old ++ joined (route_words worker revision hearers.now ∷ [])) }
+    ensures { IfOk result
+        (λ _. string_bytes text.new ≡ string_bytes text.old ++ joined (route_words worker revision hearers.now ∷ [])) }
 {
     let words = [
         Word::Number(u64::from(worker)),
@@ -66,7 +69,7 @@ fn push_route(
     push_hearers(alloc, text, hearers)
 }
 
-/// The view of the worker at a place goes to a revision.
+// The view of the worker at a place goes to a revision.
 fn go_to_at(
     views: &mut Vec<View>,
     place: usize,
@@ -79,7 +82,8 @@ fn go_to_at(
     requires accepted { revision ≤ length history.now.accepted }
     ensures views { All (IsViewOf history.now.opening history.now.accepted) views.new.items }
     ensures as_many { length views.new.items ≡ length views.old.items }
-    ensures state { OnOk result (IfSome (slice_get views.new.items place) (λ view. view.state ≡ state_at history.now revision)) }
+    ensures state { OnOk result
+        (IfSome (slice_get views.new.items place) (λ view. view.state ≡ state_at history.now revision)) }
 {
     match views.get_mut(place) {
         Some(view) => view.go_to(alloc, history, revision),
@@ -87,8 +91,8 @@ fn go_to_at(
     }
 }
 
-/// The copies of a packet in a state, for those who hear it, who take the place of those in the audience; nobody where there
-/// is none.
+// The copies of a packet in a state, for those who hear it, who take the place of those in the audience; nobody where there
+// is none.
 fn heard_in(
     alloc: Global,
     state: &State,
@@ -113,8 +117,8 @@ fn heard_in(
 }
 
 impl Machine {
-    /// The copies of the packet that a worker holds, for those who hear it at a revision, who take the place of those in
-    /// the audience; nobody where it holds none. A look at all accepted edits needs no view of its own.
+    // The copies of the packet that a worker holds, for those who hear it at a revision, who take the place of those in
+    // the audience; nobody where it holds none. A look at all accepted edits needs no view of its own.
     #[tactic(auto, using(mum_history::proofs::Fronts::at_all))]
     fn heard_at(
         &mut self,
@@ -126,8 +130,10 @@ impl Machine {
         requires there { worker < length self.old.workers }
         requires accepted { revision ≤ length self.old.accepted }
         requires sound { AreSound (core_state_at self.old revision) caches.old }
-        ensures hearers { OnOk result (hearers.new ≡ audience (core_state_at self.old revision) (worker_at self.old worker).held) }
-        ensures copies { IfOk result (λ left. left.items ≡ copies (core_state_at self.old revision) (worker_at self.old worker).held) }
+        ensures hearers { OnOk result
+            (hearers.new ≡ audience (core_state_at self.old revision) (worker_at self.old worker).held) }
+        ensures copies { IfOk result
+            (λ left. left.items ≡ copies (core_state_at self.old revision) (worker_at self.old worker).held) }
         ensures asked { OnOk result (KeepsFor (core_state_at self.old revision) (worker_at self.old worker).held caches.old.routes caches.new.routes) }
         ensures sound { OnOk result (AreSound (core_state_at self.old revision) caches.new) }
         ensures same { self.new ≡ self.old }
@@ -177,7 +183,7 @@ impl Machine {
         Ok(())
     }
 
-    /// Takes a look that is allowed.
+    // Takes a look that is allowed.
     pub(super) fn take_look(
         &mut self,
         caches: &mut Caches,
@@ -190,7 +196,8 @@ impl Machine {
         requires accepted { revision ≤ length self.old.accepted }
         requires sound { AreSound (core_state_at self.old revision) caches.old }
         ensures settled { Settles named_cause (first_that_stands (forbids self.old worker revision)) (does self.old worker revision) self.old result self.new }
-        ensures told { OnOk result (string_bytes text.new ≡ string_bytes text.old ++ joined (lines self.old worker revision)) }
+        ensures told { OnOk result
+            (string_bytes text.new ≡ string_bytes text.old ++ joined (lines self.old worker revision)) }
         ensures asked { OnOk result (KeepsFor (core_state_at self.old revision) (worker_at self.old worker).held caches.old.routes caches.new.routes) }
         ensures sound { OnOk result (AreSound (core_state_at self.old revision) caches.new) }
     {

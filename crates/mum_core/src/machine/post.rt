@@ -14,7 +14,7 @@ use mum_notify::shared;
 use mum_record::{Word, push_line};
 
 impl Machine {
-    /// The first pending notice is no longer pending.
+    // The first pending notice is no longer pending.
     fn count_post(&mut self)
         ensures { self.new ≡ record self.old { pending = drop 1 self.old.pending; posted = up self.old.posted } }
     {

@@ -1,4 +1,4 @@
-//! What may be read of the core between steps: by whoever has to know what was decided, and who is to be told.
+//! What may be read of the core between steps, by whoever has to know what was decided and who is notified.
 
 ghost use Rattle.std.specs.Prelude.{◌≡◌, IfOk, map};
 ghost use Rattle.std.specs.Option.{option_map};
@@ -15,8 +15,8 @@ impl Machine {
         self.history.published()
     }
 
-    /// What was decided of the command of a connection, until it is told: none where nothing waits to be
-    /// told, or where no connection of that number was opened.
+    /// What was decided of the command of a connection, until it is sent: none where nothing waits to be
+    /// sent, or where no connection of that number was opened.
     pub fn decided(&self, connection: u32) -> Option<Mark>
         ensures { result ≡ option_map (λ reply. reply.mark) (connection_at self.now connection).decided }
     {

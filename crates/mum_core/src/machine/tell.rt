@@ -18,7 +18,7 @@ use mum_base::{Items, Mark, OutOfMemory, Text};
 use mum_record::{Word, push_line};
 use std::alloc::Global;
 
-/// The word of a note: its revision, or a dash where there is none.
+// The word of a note: its revision, or a dash where there is none.
 fn note_word(note: Option<u64>) -> Word<'static>
     ensures { spelled_word result ≡ revision_word note }
 {
@@ -28,20 +28,21 @@ fn note_word(note: Option<u64>) -> Word<'static>
     }
 }
 
-/// Appends the line of a frame on the wire to a connection.
+// Appends the line of a frame on the wire to a connection.
 pub(super) fn push_wire(
     alloc: Global,
     text: &mut String,
     connection: u32,
     frame: &[u8],
 ) -> Result<(), OutOfMemory>
-    ensures { IfOk result (λ _. string_bytes text.new ≡ string_bytes text.old ++ joined (wire_words connection frame.now ∷ [])) }
+    ensures { IfOk result
+        (λ _. string_bytes text.new ≡ string_bytes text.old ++ joined (wire_words connection frame.now ∷ [])) }
 {
     let words = [Word::Number(u64::from(connection)), Word::Digits(frame)];
     push_line(alloc, text, "wire", &words)
 }
 
-/// A line of a first word and others, by itself.
+// A line of a first word and others, by itself.
 fn line(alloc: Global, first: &str, words: &[Word<'_>]) -> Result<Text, OutOfMemory>
     ensures { IfOk result (λ line. line ≡ line_of_words (first.now ∷ map spelled_word words.now)) }
 {
@@ -50,7 +51,7 @@ fn line(alloc: Global, first: &str, words: &[Word<'_>]) -> Result<Text, OutOfMem
     Ok(Text::from_string(text))
 }
 
-/// What is reported of a reply: that it was told, and behind that its frame, where it has one.
+// What is reported of a reply: that it was sent, and after that its frame, where it has one.
 fn reply_lines(
     alloc: Global,
     connection: u32,
@@ -70,7 +71,7 @@ fn reply_lines(
     Ok(reported)
 }
 
-/// Appends lines, parted by line feeds.
+// Appends lines, separated by line feeds.
 fn push_lines(text: &mut String, lines: &[Text]) -> Result<(), OutOfMemory>
     ensures { IfOk result (λ _. string_bytes text.new ≡ string_bytes text.old ++ join_with_byte 10 lines.now) }
 {
@@ -86,7 +87,7 @@ fn push_lines(text: &mut String, lines: &[Text]) -> Result<(), OutOfMemory>
 }
 
 impl Machine {
-    /// Refuses a note where no edit was accepted, or that does not hold it, or that is not published.
+    // Refuses a note where no edit was accepted, or that does not hold it, or that is not published.
     fn check_note(&self, reply: &Reply, note: Option<u64>) -> Result<(), StepFault>
         ensures { Passes (first_that_stands (note_cases self.now (Some reply.now) note)) result }
     {
@@ -105,7 +106,7 @@ impl Machine {
         Ok(())
     }
 
-    /// Refuses a tell that is not allowed.
+    // Refuses a `Tell` that is not allowed.
     fn check_tell(&self, connection: u32, note: Option<u64>) -> Result<(), StepFault>
         ensures passes { Passes (first_that_stands (forbids self.now connection note)) result }
         ensures opened { OnOk result (is_opened self.now connection ≡ true) }
@@ -119,7 +120,7 @@ impl Machine {
         self.check_note(reply, note)
     }
 
-    /// The bytes that come on the wire to a connection: those of its reply, where it is not closed.
+    // The bytes that come on the wire to a connection: those of its reply, where it is not closed.
     fn wire_to(&self, connection: u32) -> &[u8]
         ensures { result.now ≡ wire_to self.now connection }
     {
@@ -129,7 +130,7 @@ impl Machine {
         }
     }
 
-    /// The lines of a tell, which is refused where it is not allowed.
+    // The lines of a `Tell`, which is refused where it is not allowed.
     pub(super) fn tell_lines(
         &self,
         connection: u32,
@@ -144,7 +145,7 @@ impl Machine {
         Ok(reported)
     }
 
-    /// A connection is told its reply, and its worker the note.
+    // A connection is sent its reply, and its worker the note.
     pub(super) fn tell(&mut self, connection: u32, note: Option<u64>)
         requires { is_opened self.old connection ≡ true }
         ensures { self.new ≡ does self.old connection note }
@@ -164,7 +165,8 @@ impl Machine {
         text: &mut String,
     ) -> Result<(), StepFault>
         ensures settled { Settles named_cause (first_that_stands (forbids self.old connection note)) (does self.old connection note) self.old result self.new }
-        ensures told { OnOk result (string_bytes text.new ≡ string_bytes text.old ++ joined (lines self.old connection note)) }
+        ensures told { OnOk result
+            (string_bytes text.new ≡ string_bytes text.old ++ joined (lines self.old connection note)) }
     {
         let reported = self.tell_lines(connection, note)?;
         push_lines(text, reported.as_slice())?;

@@ -25,7 +25,7 @@ pub enum DoorEvent {
     Fail,
 }
 
-/// A door in memory. It goes along a list of events, and behind the last one finds the end.
+/// A door in memory. It goes along a list of events, and after the last one finds the end.
 #[derive(Drop)]
 pub struct MemDoor {
     alloc: Global,

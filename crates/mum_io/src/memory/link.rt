@@ -25,7 +25,7 @@ pub enum LinkEvent {
     NotYet,
     /// A fault.
     Fail,
-    /// The end. No event comes behind it.
+    /// The end. No event comes after it.
     End,
 }
 
@@ -80,7 +80,7 @@ impl Kept {
     }
 }
 
-/// A link in memory. Its reads go along a list of events, and behind the last one find the end. A write takes
+/// A link in memory. Its reads go along a list of events, and after the last one find the end. A write takes
 /// the whole piece. Once it was shut each read and each write fails.
 #[derive(Drop)]
 pub struct MemLink {
@@ -161,7 +161,7 @@ impl MemLink {
     }
 }
 
-// Takes from the rest of a piece and the events behind it what a read finds.
+// Takes from the rest of a piece and the events after it what a read finds.
 fn read_events(piece: &mut Unread, events: &mut VecDeque<LinkEvent>, buf: &mut [u8]) -> PollRead
     requires { 0 < length buf.old }
     ensures answer { result ≡

@@ -1,4 +1,4 @@
-use Rattle.std.proofs.Common.{sym, ◌∙◌, arith}
+use Rattle.mum_address.proofs.Common.{sym, ◌∙◌, arith}
 use Rattle.mum_address.proofs.Fronts.{read_whole, whole_read, read_refused, refused_read, read_needs}
 use Rattle.mum_address.proofs.proxy.header_of.Goals as goal
 

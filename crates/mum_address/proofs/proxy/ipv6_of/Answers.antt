@@ -1,6 +1,4 @@
-use Rattle.std.proofs.Common.{take, ap, ◌∙◌, arith}
-use Rattle.std.proofs.lemmas.List.{length-take-le}
-use Rattle.std.specs.Net.Addr.{octets_of, segments_of}
+use Rattle.mum_address.proofs.Common.{take, ap, ◌∙◌, arith, length-take-le, octets_of, segments_of}
 use Rattle.mum_address.proofs.Octets.{octets_of_sixteen, IsBytes-take}
 use Rattle.mum_address.proofs.proxy.ipv6_of.Goals as goal
 

@@ -1,8 +1,4 @@
-use Rattle.std.proofs.Common.{◌≡◌, List, ℕ, ◌++◌, drop, take, ap, sym, refl, ◌∙◌}
-use Rattle.std.proofs.lemmas.Bool.Decides.{Decides-eqb}
-use Rattle.std.proofs.lemmas.List.{take-append-drop}
-use Rattle.std.proofs.lemmas.Slice.Eq.{slice_eq-Decides}
-use Rattle.mum_address.specs.Header.{signature}
+use Rattle.mum_address.proofs.Common.{◌≡◌, List, ℕ, ◌++◌, drop, take, ap, sym, refl, ◌∙◌, Decides-eqb, take-append-drop, slice_eq-Decides, signature}
 use Rattle.mum_address.proofs.Fronts.{read_signed}
 use Rattle.mum_address.proofs.proxy.read.Goals as goal
 

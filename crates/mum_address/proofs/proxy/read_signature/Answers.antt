@@ -1,8 +1,4 @@
-use Rattle.std.proofs.Common.{◌≡◌, ◌++◌, drop, length, sym}
-use Rattle.std.proofs.lemmas.Bool.{both_ways}
-use Rattle.std.proofs.lemmas.Bool.Decides.{Decides-eqb}
-use Rattle.std.proofs.lemmas.Slice.Eq.{starts_is}
-use Rattle.mum_address.specs.Header.{signature}
+use Rattle.mum_address.proofs.Common.{◌≡◌, ◌++◌, drop, length, sym, both_ways, Decides-eqb, starts_is, signature}
 use Rattle.mum_address.proofs.Fronts.{read_begun, read_unsigned}
 use Rattle.mum_address.proofs.proxy.read_signature.Goals as goal
 

@@ -1,6 +1,5 @@
 -- Each entry that is right goes on, and the first wrong one ends it.
-use Rattle.std.proofs.Common.{◌≡◌, ◌∙◌, ◌<◌, None, Some, length, arith, sym}
-use Rattle.mum_audit.specs.Controls.{entry_finding}
+use Rattle.mum_audit.proofs.Common.{◌≡◌, ◌∙◌, ◌<◌, None, Some, length, arith, sym, entry_finding}
 use Rattle.mum_audit.proofs.Walks.{control_here, controls_on, controls_over, lines_over, lines_past, past_on}
 use Rattle.mum_audit.proofs.control.check_controls.Goals as goal
 

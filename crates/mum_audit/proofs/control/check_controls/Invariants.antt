@@ -1,6 +1,4 @@
-use Rattle.std.proofs.Common.{◌≡◌, drop}
-use Rattle.mum_audit.specs.Audit.{first_wrong, lines_on}
-use Rattle.mum_audit.specs.Controls.{after_entries, control_findings}
+use Rattle.mum_audit.proofs.Common.{◌≡◌, drop, first_wrong, lines_on, after_entries, control_findings}
 use Rattle.mum_audit.proofs.control.check_controls.Given as goal
 
 abbrev pub invariant-loop-entry : goal.invariant-loop-entry

@@ -1,5 +1,4 @@
-use Rattle.std.proofs.Common.{◌≡◌, drop}
-use Rattle.mum_audit.specs.Counts.{no_counts, with_workers}
+use Rattle.mum_audit.proofs.Common.{◌≡◌, drop, no_counts, with_workers}
 use Rattle.mum_audit.proofs.count.counts_in.Given as goal
 
 abbrev pub invariant-loop-entries : goal.invariant-loop-entries

@@ -1,5 +1,4 @@
-use Rattle.std.proofs.Common.{ap, length, List}
-use Rattle.mum_record.specs.declared.journal.ControlEntry.{ControlEntry}
+use Rattle.mum_audit.proofs.Common.{ap, length, List, ControlEntry}
 use Rattle.mum_audit.proofs.Totals.{counted}
 use Rattle.mum_audit.proofs.count.counts_of.Goals as goal
 

@@ -1,5 +1,4 @@
-use Rattle.std.proofs.Common.{◌≡◌, drop}
-use Rattle.mum_audit.specs.Counts.{with_entries}
+use Rattle.mum_audit.proofs.Common.{◌≡◌, drop, with_entries}
 use Rattle.mum_audit.proofs.count.with_entries.Given as goal
 
 abbrev pub invariant-loop-entry : goal.invariant-loop-entry

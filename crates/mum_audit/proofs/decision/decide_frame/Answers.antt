@@ -1,6 +1,5 @@
 -- The frame is a login or a command, and the machine asks for it.
-use Rattle.std.proofs.Common.{◌∙◌, sym}
-use Rattle.std.proofs.lemmas.Result.{IfOk-weaker}
+use Rattle.mum_audit.proofs.Common.{◌∙◌, sym, IfOk-weaker}
 use Rattle.mum_audit.proofs.Acting.{asked, none_of_three, verdict_is}
 use Rattle.mum_audit.proofs.decision.decide_frame.Goals as goal
 

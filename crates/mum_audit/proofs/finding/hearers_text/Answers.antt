@@ -1,6 +1,4 @@
-use Rattle.std.proofs.Common.{arith}
-use Rattle.std.proofs.lemmas.Grind.{common_steps}
-use Rattle.mum_route.specs.Hearers.{member_of}
+use Rattle.mum_audit.proofs.Common.{arith, common_steps, member_of}
 use Rattle.mum_audit.proofs.Texts.{audience_of}
 use Rattle.mum_audit.proofs.finding.hearers_text.Goals as goal
 

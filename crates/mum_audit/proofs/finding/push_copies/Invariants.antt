@@ -1,7 +1,4 @@
-use Rattle.std.proofs.Common.{◌≡◌, ◌++◌, ◌∷◌, take}
-use Rattle.std.specs.Prelude.{string_bytes}
-use Rattle.std.specs.List.{flat_map}
-use Rattle.mum_audit.specs.Finding.{member_word}
+use Rattle.mum_audit.proofs.Common.{◌≡◌, ◌++◌, ◌∷◌, take, string_bytes, flat_map, member_word}
 use Rattle.mum_audit.proofs.finding.push_copies.Given as goal
 
 abbrev pub invariant-loop-copy : goal.invariant-loop-copy

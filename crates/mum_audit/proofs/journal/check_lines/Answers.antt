@@ -1,12 +1,5 @@
 -- What is found among the control entries, or else with the workers.
-use Rattle.std.proofs.Common.{◌≡◌, ◌∙◌, ℕ, Option, List, sym, ap}
-use Rattle.std.proofs.lemmas.Result.{IfOk-weaker}
-use Rattle.mum_record.specs.Head.{first_step_line}
-use Rattle.mum_record.specs.declared.journal.WorkerEntry.{WorkerEntry}
-use Rattle.mum_audit.specs.declared.finding.Finding.{Finding}
-use Rattle.mum_audit.specs.Audit.{first_line, first_wrong}
-use Rattle.mum_audit.specs.Past.{Past}
-use Rattle.mum_audit.specs.Workers.{Trail, before_workers, worker_findings}
+use Rattle.mum_audit.proofs.Common.{◌≡◌, ◌∙◌, ℕ, Option, List, sym, ap, IfOk-weaker, first_step_line, WorkerEntry, Finding, first_line, first_wrong, Past, Trail, before_workers, worker_findings}
 use Rattle.mum_audit.proofs.Walks.{found_above, found_below, found_in_controls, line_behind, past_behind, view_stays}
 use Rattle.mum_audit.proofs.journal.check_lines.Goals as goal
 

@@ -1,6 +1,4 @@
-use Rattle.std.proofs.Common.{◌≡◌, drop, map}
-use Rattle.mum_route.specs.Hearers.{member_of}
-use Rattle.mum_audit.specs.Finding.{members_of, same_members}
+use Rattle.mum_audit.proofs.Common.{◌≡◌, drop, map, member_of, members_of, same_members}
 use Rattle.mum_audit.proofs.voice.are_all_members.Given as goal
 
 abbrev pub invariant-loop-i : goal.invariant-loop-i

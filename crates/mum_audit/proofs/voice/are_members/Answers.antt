@@ -1,7 +1,4 @@
-use Rattle.std.proofs.Common.{◌∙◌, map, sym}
-use Rattle.std.proofs.lemmas.List.{length-map}
-use Rattle.mum_route.specs.Hearers.{member_of}
-use Rattle.mum_audit.specs.Finding.{members_of}
+use Rattle.mum_audit.proofs.Common.{◌∙◌, map, sym, length-map, member_of, members_of}
 use Rattle.mum_audit.proofs.Same.{lengths_apart}
 use Rattle.mum_audit.proofs.voice.are_members.Goals as goal
 

@@ -1,5 +1,5 @@
 -- Each entry that is right goes on, and the first wrong one ends it.
-use Rattle.std.proofs.Common.{◌≡◌, ◌∙◌, ◌<◌, None, Some, length, arith, sym}
+use Rattle.mum_audit.proofs.Common.{◌≡◌, ◌∙◌, ◌<◌, None, Some, length, arith, sym}
 use Rattle.mum_audit.specs.Workers.{after_entry, entry_finding}
 use Rattle.mum_audit.proofs.Walks.{entries_on, entries_over, entry_here, trail_on}
 use Rattle.mum_audit.proofs.worker.check_entries.Goals as goal

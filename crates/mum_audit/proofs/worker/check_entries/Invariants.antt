@@ -1,7 +1,5 @@
-use Rattle.std.proofs.Common.{◌≡◌, drop}
-use Rattle.mum_history.specs.View.{IsViewOf}
-use Rattle.mum_audit.specs.Audit.{first_wrong}
-use Rattle.mum_audit.specs.Workers.{after_entries, entry_findings}
+use Rattle.mum_audit.proofs.Common.{◌≡◌, drop, IsViewOf, first_wrong, entry_findings}
+use Rattle.mum_audit.specs.Workers.{after_entries}
 use Rattle.mum_audit.proofs.worker.check_entries.Given as goal
 
 abbrev pub invariant-loop-entry : goal.invariant-loop-entry

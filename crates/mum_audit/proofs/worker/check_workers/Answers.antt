@@ -1,10 +1,6 @@
 -- Each worker that is right goes on, and the first wrong line ends it.
-use Rattle.std.proofs.Common.{◌≡◌, ◌∙◌, ◌<◌, ℕ, Option, List, drop, length, arith, sym, ap, ◌+◌}
-use Rattle.mum_record.specs.declared.journal.WorkerEntry.{WorkerEntry}
-use Rattle.mum_audit.specs.declared.finding.Finding.{Finding}
-use Rattle.mum_audit.specs.Audit.{first_wrong}
-use Rattle.mum_audit.specs.Past.{Past}
-use Rattle.mum_audit.specs.Workers.{Trail, after_entries, at_worker, entry_findings, worker_findings}
+use Rattle.mum_audit.proofs.Common.{◌≡◌, ◌∙◌, ◌<◌, ℕ, Option, List, drop, length, arith, sym, ap, ◌+◌, WorkerEntry, Finding, first_wrong, Past, Trail, at_worker, entry_findings, worker_findings}
+use Rattle.mum_audit.specs.Workers.{after_entries}
 use Rattle.mum_audit.proofs.Walks.{worker_here, workers_on, workers_over}
 use Rattle.mum_audit.proofs.worker.check_workers.Goals as goal
 

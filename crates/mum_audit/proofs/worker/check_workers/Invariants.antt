@@ -1,7 +1,4 @@
-use Rattle.std.proofs.Common.{◌≡◌, drop}
-use Rattle.mum_history.specs.View.{IsViewOf}
-use Rattle.mum_audit.specs.Audit.{first_wrong}
-use Rattle.mum_audit.specs.Workers.{worker_findings}
+use Rattle.mum_audit.proofs.Common.{◌≡◌, drop, IsViewOf, first_wrong, worker_findings}
 use Rattle.mum_audit.proofs.worker.check_workers.Given as goal
 
 abbrev pub invariant-loop-entries : goal.invariant-loop-entries

@@ -1,4 +1,4 @@
-use Rattle.std.proofs.Common.{◌∙◌}
+use Rattle.mum_bans.proofs.Common.{◌∙◌}
 use Rattle.mum_bans.proofs.Bits.{alike_before, alike_other, alike_same}
 use Rattle.mum_bans.proofs.ban.+begin_alike.Goals as goal
 

@@ -1,4 +1,4 @@
-use Rattle.std.proofs.Common.{[]}
+use Rattle.mum_bans.proofs.Common.{[]}
 use Rattle.mum_bans.proofs.Folds.{calls_fold, one_more}
 use Rattle.mum_bans.proofs.laws.books_are_folds.Goals as goal
 

@@ -1,6 +1,4 @@
-use Rattle.std.proofs.Common.{◌∷◌, [], ◌++◌, ap, ◌∙◌}
-use Rattle.mum_bans.specs.declared.ban_entry.BanEntry.{BanEntry}
-use Rattle.mum_bans.specs.Answer.{entry_of}
+use Rattle.mum_bans.proofs.Common.{◌∷◌, [], ◌++◌, ap, ◌∙◌, BanEntry, entry_of}
 use Rattle.mum_bans.proofs.Lists.{mapped_at}
 use Rattle.mum_bans.proofs.listing.list_of.Goals as goal
 

@@ -1,5 +1,4 @@
-use Rattle.std.proofs.Common.{◌≡◌, map, take}
-use Rattle.mum_bans.specs.Answer.{entry_of}
+use Rattle.mum_bans.proofs.Common.{◌≡◌, map, take, entry_of}
 use Rattle.mum_bans.proofs.listing.list_of.Given as goal
 
 abbrev pub invariant-loop-ban : goal.invariant-loop-ban

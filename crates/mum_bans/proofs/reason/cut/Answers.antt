@@ -1,5 +1,4 @@
-use Rattle.std.proofs.Common.{sym, subst, List, ℕ}
-use Rattle.mum_bans.specs.Cut.{IsCut}
+use Rattle.mum_bans.proofs.Common.{sym, subst, List, ℕ, IsCut}
 use Rattle.mum_bans.proofs.Cuts.{cut_at}
 use Rattle.mum_bans.proofs.reason.cut.Goals as goal
 

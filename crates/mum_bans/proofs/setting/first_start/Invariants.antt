@@ -1,5 +1,4 @@
-use Rattle.std.proofs.Common.{◌≡◌, drop}
-use Rattle.mum_bans.specs.Book.{first_start}
+use Rattle.mum_bans.proofs.Common.{◌≡◌, drop, first_start}
 use Rattle.mum_bans.proofs.setting.first_start.Given as goal
 
 abbrev pub invariant-loop-other : goal.invariant-loop-other

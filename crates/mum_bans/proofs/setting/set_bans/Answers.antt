@@ -1,7 +1,4 @@
-use Rattle.std.proofs.Common.{◌∷◌, [], ◌++◌, ap, ◌∙◌, arith}
-use Rattle.mum_bans.specs.declared.ban.Ban.{Ban}
-use Rattle.mum_bans.specs.Book.{set_ban}
-use Rattle.mum_bans.specs.Limits.{is_sound_entry}
+use Rattle.mum_bans.proofs.Common.{◌∷◌, [], ◌++◌, ap, ◌∙◌, arith, Ban, set_ban, is_sound_entry}
 use Rattle.mum_bans.proofs.Lists.{mapped_at, passes_at}
 use Rattle.mum_bans.proofs.setting.set_bans.Goals as goal
 

@@ -1,5 +1,4 @@
-use Rattle.std.proofs.Common.{◌≡◌, ◌+◌, length, map, take, vec_len, vec_capacity}
-use Rattle.mum_bans.specs.Book.{set_ban}
+use Rattle.mum_bans.proofs.Common.{◌≡◌, ◌+◌, length, map, take, vec_len, vec_capacity, set_ban}
 use Rattle.mum_bans.proofs.setting.set_bans.Given as goal
 
 abbrev pub invariant-loop-entry : goal.invariant-loop-entry

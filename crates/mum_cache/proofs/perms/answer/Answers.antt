@@ -1,6 +1,4 @@
-use Rattle.std.proofs.Common.{◌≡◌, ◌∙◌, ℕ, true, List, Some, get_or, set, ap, arith, subst, sym}
-use Rattle.mum_cache.specs.declared.perms.PermEntry.{PermEntry}
-use Rattle.mum_cache.specs.Perms.{ArePermsSound, answers, index_of, kept_at, no_perm}
+use Rattle.mum_cache.proofs.Common.{◌≡◌, ◌∙◌, ℕ, true, List, Some, get_or, set, ap, arith, subst, sym, PermEntry, ArePermsSound, answers, index_of, kept_at, no_perm}
 use Rattle.mum_cache.proofs.Answered.{answered_sound, answers_is, entry_is, get_same, index_within, kept_is, set_itself}
 use Rattle.mum_cache.proofs.perms.answer.Goals as goal
 

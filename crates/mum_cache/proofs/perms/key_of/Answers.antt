@@ -1,8 +1,4 @@
-use Rattle.std.proofs.Common.{◌≡◌, ◌∙◌, Some, ap, sym}
-use Rattle.std.specs.Option.{option_copied}
-use Rattle.mum_users.specs.State.{RosterState}
-use Rattle.mum_users.specs.Sessions.{session_of}
-use Rattle.mum_route.proofs.Slots.{slot_below}
+use Rattle.mum_cache.proofs.Common.{◌≡◌, ◌∙◌, Some, ap, sym, option_copied, RosterState, session_of, slot_below}
 use Rattle.mum_cache.proofs.Answered.{key_is}
 use Rattle.mum_cache.proofs.perms.key_of.Goals as goal
 

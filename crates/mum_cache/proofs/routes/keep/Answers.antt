@@ -1,7 +1,4 @@
-use Rattle.std.proofs.Common.{◌∙◌, List, ap, length, subst, sym}
-use Rattle.std.proofs.lemmas.List.{length-set}
-use Rattle.mum_cache.specs.declared.routes.RouteEntry.{RouteEntry}
-use Rattle.mum_cache.specs.Routes.{KeepsRoute}
+use Rattle.mum_cache.proofs.Common.{◌∙◌, List, ap, length, subst, sym, length-set, RouteEntry, KeepsRoute}
 use Rattle.mum_cache.proofs.Kept.{kept_sound, miss_kept}
 use Rattle.mum_cache.proofs.routes.keep.Goals as goal
 

@@ -1,5 +1,4 @@
-use Rattle.std.proofs.Common.{◌∙◌, ℕ, vec_capacity, ap, arith}
-use Rattle.mum_cache.specs.Table.{padded}
+use Rattle.mum_cache.proofs.Common.{◌∙◌, ℕ, vec_capacity, ap, arith, padded}
 use Rattle.mum_cache.proofs.Padded.{padded_push}
 use Rattle.mum_cache.proofs.table.write_up_to.Goals as goal
 

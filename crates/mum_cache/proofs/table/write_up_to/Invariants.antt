@@ -1,5 +1,4 @@
-use Rattle.std.proofs.Common.{◌≡◌, ◌+◌, ◌-◌, length, vec_capacity}
-use Rattle.mum_cache.specs.Table.{padded}
+use Rattle.mum_cache.proofs.Common.{◌≡◌, ◌+◌, ◌-◌, length, vec_capacity, padded}
 use Rattle.mum_cache.proofs.table.write_up_to.Given as goal
 
 abbrev pub invariant-numbers : goal.invariant-numbers

@@ -1,4 +1,4 @@
-use Rattle.std.proofs.Common.{refl}
+use Rattle.mum_command_laws.proofs.Common.{refl}
 use Rattle.mum_command_laws.proofs.connections.sessions_follow_replies.Goals as goal
 
 pub returns-clause-joined : goal.returns-clause-joined

@@ -1,8 +1,4 @@
-use Rattle.std.proofs.Common.{◌<◌, length, map, refl, sym, ◌∙◌, rules}
-use Rattle.std.proofs.lemmas.Result.{err_from_is_err_and}
-use Rattle.serde_json.specs.View.{view}
-use Rattle.mum_config.specs.Account.{AccountsMet, account_edit, account_fault, with_account_met}
-use Rattle.mum_document.proofs.Elements.{elements_step, elements_stop, pushed}
+use Rattle.mum_config.proofs.Common.{◌<◌, length, map, refl, sym, ◌∙◌, rules, err_from_is_err_and, view, AccountsMet, account_edit, account_fault, with_account_met, elements_step, elements_stop, pushed}
 use Rattle.mum_config.proofs.account.add_accounts.Goals as goal
 
 pub returns-in_err-at_place-clause-reads : goal.returns-in_err-at_place-clause-reads

@@ -1,7 +1,4 @@
-use Rattle.std.proofs.Common.{◌≡◌, ◌++◌, drop, map, take}
-use Rattle.serde_json.specs.View.{view}
-use Rattle.mum_config.specs.Account.{account_edit, account_fault, with_account_met}
-use Rattle.mum_document.specs.Object.{elements_fault}
+use Rattle.mum_config.proofs.Common.{◌≡◌, ◌++◌, drop, map, take, view, account_edit, account_fault, with_account_met, elements_fault}
 use Rattle.mum_config.proofs.account.add_accounts.Given as goal
 
 -- the first fault is not passed yet, and the edits so far are there

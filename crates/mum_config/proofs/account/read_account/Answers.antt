@@ -1,14 +1,4 @@
-use Rattle.std.proofs.Common.{[], ◌∷◌, ◌++◌, map, ap, refl, ◌∙◌}
-use Rattle.std.proofs.lemmas.Result.{err_from_is_err_and}
-use Rattle.mum_document.proofs.First.{first, later, none_said, not_new, out_of_memory, rows_first, rows_later, rows_none}
-use Rattle.std.specs.List.{list_any}
-use Rattle.std.specs.Prelude.{codes, nat_eq}
-use Rattle.serde_json.specs.Find.{get}
-use Rattle.serde_json.specs.View.{view}
-use Rattle.mum_config.specs.Account.{account_edit, account_fault}
-use Rattle.mum_document.specs.Object.{new_name_rows}
-use Rattle.mum_document.specs.Value.{digest_fault, needed}
-use Rattle.mum_document.proofs.Sets.{inserted, none_against}
+use Rattle.mum_config.proofs.Common.{[], ◌∷◌, ◌++◌, map, ap, refl, ◌∙◌, err_from_is_err_and, first, later, none_said, not_new, out_of_memory, rows_first, rows_later, rows_none, list_any, codes, nat_eq, get, view, account_edit, account_fault, new_name_rows, digest_fault, needed, inserted, none_against}
 use Rattle.mum_config.proofs.account.read_account.Goals as goal
 
 pub returns-in_err-open-clause-reads : goal.returns-in_err-open-clause-reads

@@ -1,8 +1,4 @@
-use Rattle.std.proofs.Common.{◌<◌, length, sym, ◌∙◌, rules}
-use Rattle.std.proofs.lemmas.Result.{err_from_is_err_and}
-use Rattle.serde_json.specs.View.{view}
-use Rattle.mum_config.specs.Channel.{channel_edits, channel_fault, met_of, with_channel_met}
-use Rattle.mum_document.proofs.Elements.{elements_step, elements_stop, folded, pushed_all}
+use Rattle.mum_config.proofs.Common.{◌<◌, length, sym, ◌∙◌, rules, err_from_is_err_and, view, channel_edits, channel_fault, met_of, with_channel_met, elements_step, elements_stop, folded, pushed_all}
 use Rattle.mum_config.proofs.channel.add_channels.Goals as goal
 
 pub returns-in_err-at_place-clause-reads : goal.returns-in_err-at_place-clause-reads

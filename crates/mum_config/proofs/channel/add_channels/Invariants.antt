@@ -1,8 +1,4 @@
-use Rattle.std.proofs.Common.{◌≡◌, ◌++◌, drop, fold, map, take}
-use Rattle.std.specs.List.{flat_map}
-use Rattle.serde_json.specs.View.{view}
-use Rattle.mum_config.specs.Channel.{channel_edits, channel_fault, met_of, with_channel_met}
-use Rattle.mum_document.specs.Object.{elements_fault}
+use Rattle.mum_config.proofs.Common.{◌≡◌, ◌++◌, drop, fold, map, take, flat_map, view, channel_edits, channel_fault, met_of, with_channel_met, elements_fault}
 use Rattle.mum_config.proofs.channel.add_channels.Given as goal
 
 -- the first fault is not passed yet; the channels and the edits so far are there

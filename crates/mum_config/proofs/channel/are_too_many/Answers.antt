@@ -1,11 +1,4 @@
-use Rattle.std.proofs.Common.{◌≡◌, ℕ, ◌+◌, true, false, map, length, sym, refl, ◌∙◌, arith, add-zero}
-use Rattle.std.specs.Prelude.{leb, nat_lt}
-use Rattle.std.proofs.lemmas.Bool.Decides.{nat_tests}
-use Rattle.std.specs.List.{list_any}
-use Rattle.std.proofs.lemmas.List.{length-map}
-use Rattle.serde_json.specs.View.{view}
-use Rattle.mum_config.specs.Channel.{is_root_entry}
-use Rattle.mum_document.proofs.Objects.{list_any-of_map}
+use Rattle.mum_config.proofs.Common.{◌≡◌, ℕ, ◌+◌, true, false, map, length, sym, refl, ◌∙◌, arith, add-zero, leb, nat_lt, nat_tests, list_any, length-map, view, is_root_entry, list_any-of_map}
 use Rattle.mum_config.proofs.channel.are_too_many.Goals as goal
 
 over_by_one : (n : ℕ) → leb 1024 n ≡ nat_lt 1024 (n + 1)

@@ -1,13 +1,4 @@
-use Rattle.std.proofs.Common.{List, ap, refl, sym, ℕ, ◌&&◌, ◌==◌, ◌∙◌}
-use Rattle.std.specs.List.{list_any}
-use Rattle.std.specs.Str.{bytes_eq}
-use Rattle.std.proofs.lemmas.Result.{err_from_is_err_and}
-use Rattle.serde_json.specs.View.{view}
-use Rattle.mum_document.proofs.First.{first, later, none_said, not_new, out_of_memory}
-use Rattle.std.specs.Borrow.{Bor}
-use Rattle.mum_config.specs.Channel.{channel_name, parent_number}
-use Rattle.mum_document.proofs.Objects.{list_any-of_map}
-use Rattle.mum_document.proofs.Sets.{inserted, none_against}
+use Rattle.mum_config.proofs.Common.{List, ap, refl, sym, ℕ, ◌&&◌, ◌==◌, ◌∙◌, list_any, bytes_eq, err_from_is_err_and, view, first, later, none_said, not_new, out_of_memory, Bor, channel_name, parent_number, list_any-of_map, inserted, none_against}
 use Rattle.mum_config.proofs.Seats.{inserted_seats}
 use Rattle.mum_config.proofs.channel.name_in.Goals as goal
 

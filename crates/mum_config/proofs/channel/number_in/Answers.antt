@@ -1,7 +1,4 @@
-use Rattle.std.proofs.Common.{not, ap, refl, ◌∙◌}
-use Rattle.std.proofs.lemmas.Result.{err_from_is_err_and}
-use Rattle.mum_document.proofs.First.{first, later, none_said}
-use Rattle.mum_config.specs.Channel.{rises}
+use Rattle.mum_config.proofs.Common.{not, ap, refl, ◌∙◌, err_from_is_err_and, first, later, none_said, rises}
 use Rattle.mum_config.proofs.channel.number_in.Goals as goal
 
 pub returns-in_err-number : goal.returns-in_err-number

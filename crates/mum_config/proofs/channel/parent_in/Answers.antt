@@ -1,11 +1,4 @@
-use Rattle.std.proofs.Common.{ap, arith, refl, ◌∙◌}
-use Rattle.std.specs.Prelude.{is_none, unwrap_or}
-use Rattle.std.proofs.lemmas.Result.{err_from_is_err_and}
-use Rattle.mum_document.proofs.First.{first, later, none_said}
-use Rattle.std.proofs.lemmas.Bool.Decides.{nat_tests}
-use Rattle.mum_config.specs.Channel.{depth_of}
-use Rattle.mum_document.proofs.Objects.{is_none-from}
-use Rattle.mum_document.proofs.Sets.{none_against}
+use Rattle.mum_config.proofs.Common.{ap, arith, refl, ◌∙◌, is_none, unwrap_or, err_from_is_err_and, first, later, none_said, nat_tests, depth_of, is_none-from, none_against}
 use Rattle.mum_config.proofs.channel.parent_in.Goals as goal
 
 pub returns-in_err-number-clause-reads : goal.returns-in_err-number-clause-reads

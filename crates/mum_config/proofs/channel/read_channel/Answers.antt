@@ -1,5 +1,4 @@
-use Rattle.std.proofs.Common.{sym, ◌∙◌}
-use Rattle.mum_config.specs.Channel.{channel_fault}
+use Rattle.mum_config.proofs.Common.{sym, ◌∙◌, channel_fault}
 use Rattle.mum_config.proofs.channel.read_channel.Goals as goal
 
 pub returns-then-is_root_entry-clause-reads : goal.returns-then-is_root_entry-clause-reads

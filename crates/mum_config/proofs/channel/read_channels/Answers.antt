@@ -1,6 +1,4 @@
-use Rattle.std.proofs.Common.{ap}
-use Rattle.std.proofs.lemmas.Result.{err_from_is_err_and}
-use Rattle.mum_document.proofs.First.{out_of_memory}
+use Rattle.mum_config.proofs.Common.{ap, err_from_is_err_and, out_of_memory}
 use Rattle.mum_config.proofs.channel.read_channels.Goals as goal
 
 pub returns-in_err-met-clause-reads : goal.returns-in_err-met-clause-reads

@@ -1,10 +1,4 @@
-use Rattle.std.proofs.Common.{append_assoc, ◌++◌, refl}
-use Rattle.std.specs.Prelude.{codes}
-use Rattle.std.proofs.lemmas.Result.{err_from_is_err_and}
-use Rattle.serde_json.specs.View.{view}
-use Rattle.mum_document.proofs.First.{first, later, none_said, out_of_memory, rows_first, rows_later, rows_none}
-use Rattle.mum_config.specs.Channel.{channel_edits, number_rows, root_fault, with_channel_met}
-use Rattle.mum_document.specs.Given.{info_rows, policy_rows}
+use Rattle.mum_config.proofs.Common.{append_assoc, ◌++◌, refl, codes, err_from_is_err_and, view, first, later, none_said, out_of_memory, rows_first, rows_later, rows_none, channel_edits, number_rows, root_fault, with_channel_met, info_rows, policy_rows}
 use Rattle.mum_config.proofs.channel.read_root.Goals as goal
 
 pub returns-in_err-open-clause-reads : goal.returns-in_err-open-clause-reads

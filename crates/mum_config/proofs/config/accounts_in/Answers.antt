@@ -1,10 +1,4 @@
-use Rattle.std.proofs.Common.{◌≡◌, ◌++◌, map}
-use Rattle.std.proofs.lemmas.Result.{err_from_is_err_and}
-use Rattle.serde_json.specs.View.{view}
-use Rattle.mum_config.specs.Account.{account_edit, account_fault, no_accounts, with_account_met}
-use Rattle.mum_config.specs.Document.{accounts_in}
-use Rattle.mum_document.specs.Object.{elements_fault}
-use Rattle.mum_document.proofs.First.{first, on_ok_through, or_else-end, reads_later}
+use Rattle.mum_config.proofs.Common.{◌≡◌, ◌++◌, map, err_from_is_err_and, view, account_edit, account_fault, no_accounts, with_account_met, accounts_in, elements_fault, first, on_ok_through, or_else-end, reads_later}
 use Rattle.mum_config.proofs.config.accounts_in.Goals as goal
 
 pub returns-in_err-values-clause-reads : goal.returns-in_err-values-clause-reads

@@ -1,7 +1,4 @@
-use Rattle.std.proofs.Common.{refl, ap, ◌∙◌}
-use Rattle.std.proofs.lemmas.Result.{err_from_is_err_and}
-use Rattle.mum_config.specs.Channel.{are_too_many}
-use Rattle.mum_document.proofs.First.{first, later, none_said, within_none}
+use Rattle.mum_config.proofs.Common.{refl, ap, ◌∙◌, err_from_is_err_and, are_too_many, first, later, none_said, within_none}
 use Rattle.mum_config.proofs.config.channels_in.Goals as goal
 
 pub returns-in_err-values-clause-reads : goal.returns-in_err-values-clause-reads

@@ -1,10 +1,4 @@
-use Rattle.std.proofs.Common.{◌≡◌, ◌++◌, [], map}
-use Rattle.std.proofs.lemmas.Result.{err_from_is_err_and}
-use Rattle.serde_json.specs.View.{view}
-use Rattle.mum_config.specs.Link.{link_edit, link_fault, with_link_met}
-use Rattle.mum_config.specs.Document.{links_in}
-use Rattle.mum_document.specs.Object.{elements_fault}
-use Rattle.mum_document.proofs.First.{first, on_ok_through, or_else-end, reads_later}
+use Rattle.mum_config.proofs.Common.{◌≡◌, ◌++◌, [], map, err_from_is_err_and, view, link_edit, link_fault, with_link_met, links_in, elements_fault, first, on_ok_through, or_else-end, reads_later}
 use Rattle.mum_config.proofs.config.links_in.Goals as goal
 
 pub returns-in_err-values-clause-reads : goal.returns-in_err-values-clause-reads

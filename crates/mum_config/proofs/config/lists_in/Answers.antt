@@ -1,8 +1,4 @@
-use Rattle.std.proofs.Common.{◌++◌, append_assoc}
-use Rattle.std.proofs.lemmas.Result.{err_from_is_err_and}
-use Rattle.serde_json.specs.View.{view}
-use Rattle.mum_document.proofs.First.{on_ok_as, rows_first, rows_later, rows_reads}
-use Rattle.mum_config.specs.Document.{account_list_rows, channel_list_rows, channels_met, link_list_rows}
+use Rattle.mum_config.proofs.Common.{◌++◌, append_assoc, err_from_is_err_and, view, on_ok_as, rows_first, rows_later, rows_reads, account_list_rows, channel_list_rows, channels_met, link_list_rows}
 use Rattle.mum_config.proofs.config.lists_in.Goals as goal
 
 pub returns-in_err-accounts_in-clause-reads : goal.returns-in_err-accounts_in-clause-reads

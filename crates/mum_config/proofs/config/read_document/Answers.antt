@@ -1,8 +1,4 @@
-use Rattle.std.proofs.Common.{◌++◌, [], sym, ap, refl, ◌∙◌}
-use Rattle.std.proofs.lemmas.Result.{err_from_is_err_and}
-use Rattle.serde_json.specs.View.{view}
-use Rattle.mum_document.proofs.First.{first, later, none_said, out_of_memory, rows_first, rows_later, rows_none}
-use Rattle.mum_config.specs.Document.{account_list_rows, channel_list_rows, channels_met, config_of, edits_of, link_list_rows, object_fault_of, settings_rows}
+use Rattle.mum_config.proofs.Common.{◌++◌, [], sym, ap, refl, ◌∙◌, err_from_is_err_and, view, first, later, none_said, out_of_memory, rows_first, rows_later, rows_none, account_list_rows, channel_list_rows, channels_met, config_of, edits_of, link_list_rows, object_fault_of, settings_rows}
 use Rattle.mum_config.proofs.Documents.{document_none, document_said}
 use Rattle.mum_config.proofs.config.read_document.Goals as goal
 

@@ -1,7 +1,4 @@
-use Rattle.std.proofs.Common.{refl}
-use Rattle.std.proofs.lemmas.Result.{err_from_is_err_and}
-use Rattle.mum_document.proofs.First.{first, later, none_said, none_within}
-use Rattle.mum_document.proofs.Values.{number_within}
+use Rattle.mum_config.proofs.Common.{refl, err_from_is_err_and, first, later, none_said, none_within, number_within}
 use Rattle.mum_config.proofs.config.read_settings.Goals as goal
 
 pub returns-in_err-welcome-clause-reads : goal.returns-in_err-welcome-clause-reads

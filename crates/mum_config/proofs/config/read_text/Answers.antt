@@ -1,14 +1,5 @@
-use Rattle.std.proofs.Common.{◌≡◌, true, false, length, refl, arith}
-use Rattle.std.specs.Prelude.{nat_lt}
-use Rattle.std.proofs.lemmas.Bool.Decides.{nat_tests}
-use Rattle.std.proofs.lemmas.Result.{err_from_is_err_and}
-use Rattle.serde_json.specs.View.{view}
-use Rattle.mum_config.specs.Document.{fault_of}
-use Rattle.mum_config.proofs.Documents.{text_read}
-use Rattle.mum_document.proofs.First.{first, later}
-use Rattle.mum_config.proofs.FewWorkers.{text_workers}
-use Rattle.mum_config.proofs.FitDocument.{text_fits, text_fits_limits}
-use Rattle.mum_config.proofs.FitSettings.{settings_fit_limits}
+use Rattle.mum_config.proofs.Common.{◌≡◌, true, false, length, refl, arith, nat_lt, nat_tests, err_from_is_err_and, view, fault_of, first, later}
+use Rattle.mum_config.proofs.{Documents.text_read, FewWorkers.text_workers, FitDocument.text_fits, FitDocument.text_fits_limits, FitSettings.settings_fit_limits}
 use Rattle.mum_config.proofs.config.read_text.Goals as goal
 
 pub returns-then-text-gt-DOCUMENT_LIMIT-clause-reads : goal.returns-then-text-gt-DOCUMENT_LIMIT-clause-reads

@@ -1,6 +1,5 @@
-use Rattle.std.proofs.Common.{◌≡◌, true, false, refl, sym, ◌∙◌}
+use Rattle.mum_config.proofs.Common.{◌≡◌, true, false, refl, sym, ◌∙◌, out_of_memory}
 use Rattle.mum_config.proofs.Documents.{no_value_said, value_read}
-use Rattle.mum_document.proofs.First.{out_of_memory}
 use Rattle.mum_config.proofs.config.read_value.Goals as goal
 
 pub returns-in-Ok : goal.returns-in-Ok

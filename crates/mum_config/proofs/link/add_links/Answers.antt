@@ -1,8 +1,4 @@
-use Rattle.std.proofs.Common.{◌<◌, length, refl, sym, ◌∙◌, rules}
-use Rattle.std.proofs.lemmas.Result.{err_from_is_err_and}
-use Rattle.serde_json.specs.View.{view}
-use Rattle.mum_config.specs.Link.{link_edit, link_fault, with_link_met}
-use Rattle.mum_document.proofs.Elements.{elements_step, elements_stop, pushed}
+use Rattle.mum_config.proofs.Common.{◌<◌, length, refl, sym, ◌∙◌, rules, err_from_is_err_and, view, link_edit, link_fault, with_link_met, elements_step, elements_stop, pushed}
 use Rattle.mum_config.proofs.link.add_links.Goals as goal
 
 pub returns-in_err-at_place-clause-reads : goal.returns-in_err-at_place-clause-reads

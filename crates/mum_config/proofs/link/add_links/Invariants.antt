@@ -1,7 +1,4 @@
-use Rattle.std.proofs.Common.{◌≡◌, ◌++◌, drop, map, take}
-use Rattle.serde_json.specs.View.{view}
-use Rattle.mum_config.specs.Link.{AreCounted, link_edit, link_fault, with_link_met}
-use Rattle.mum_document.specs.Object.{elements_fault}
+use Rattle.mum_config.proofs.Common.{◌≡◌, ◌++◌, drop, map, take, view, AreCounted, link_edit, link_fault, with_link_met, elements_fault}
 use Rattle.mum_config.proofs.link.add_links.Given as goal
 
 -- the first fault is not passed yet, the edits so far are there, and the links of each channel are counted

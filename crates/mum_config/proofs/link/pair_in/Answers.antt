@@ -1,4 +1,4 @@
-use Rattle.std.proofs.Common.{length, ap, ◌∙◌}
+use Rattle.mum_config.proofs.Common.{length, ap, ◌∙◌}
 use Rattle.mum_config.proofs.Pairs.{no_pair}
 use Rattle.mum_config.proofs.link.pair_in.Goals as goal
 

@@ -1,8 +1,4 @@
-use Rattle.std.proofs.Common.{refl, sym, ap, ◌∙◌}
-use Rattle.std.specs.Prelude.{is_none}
-use Rattle.mum_config.specs.Channel.{depth_of}
-use Rattle.mum_document.proofs.First.{first, later, none_said}
-use Rattle.mum_document.proofs.Objects.{is_none-from}
+use Rattle.mum_config.proofs.Common.{refl, sym, ap, ◌∙◌, is_none, depth_of, first, later, none_said, is_none-from}
 use Rattle.mum_config.proofs.link.read_end.Goals as goal
 
 pub returns-in-Err : goal.returns-in-Err

@@ -1,9 +1,4 @@
-use Rattle.std.proofs.Common.{refl, sym}
-use Rattle.std.proofs.lemmas.Result.{err_from_is_err_and}
-use Rattle.serde_json.specs.View.{view}
-use Rattle.mum_config.specs.Link.{end_fault, link_edit, link_fault, with_link_met}
-use Rattle.mum_document.specs.Value.{number_of}
-use Rattle.mum_document.proofs.First.{first, later, none_said, out_of_memory}
+use Rattle.mum_config.proofs.Common.{refl, sym, err_from_is_err_and, view, end_fault, link_edit, link_fault, with_link_met, number_of, first, later, none_said, out_of_memory}
 use Rattle.mum_config.proofs.link.read_link.Goals as goal
 
 pub returns-in_default-clause-reads : goal.returns-in_default-clause-reads

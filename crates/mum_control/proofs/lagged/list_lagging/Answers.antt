@@ -1,6 +1,4 @@
-use Rattle.std.proofs.Common.{◌∙◌, ◌&&◌, Bool, List, [], ◌∷◌, ◌++◌, cond, length, not, ap, sym}
-use Rattle.mum_base.specs.declared.number.SessionId.{SessionId}
-use Rattle.mum_control.specs.Kept.{is_listed, is_there}
+use Rattle.mum_control.proofs.Common.{◌∙◌, ◌&&◌, Bool, List, [], ◌∷◌, ◌++◌, cond, length, not, ap, sym, SessionId, is_listed, is_there}
 use Rattle.mum_control.proofs.Listing.{listed_so, room_to_list}
 use Rattle.mum_control.proofs.lagged.list_lagging.Goals as goal
 

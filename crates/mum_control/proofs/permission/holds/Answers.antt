@@ -1,8 +1,4 @@
-use Rattle.std.proofs.Common.{◌∙◌, ℕ, false, Option, ap, subst, sym}
-use Rattle.std.specs.Prelude.{◌↔◌, IsSomeAnd, IsTrue}
-use Rattle.std.specs.Option.{option_map}
-use Rattle.mum_base.specs.declared.perm.Perm.{Perm}
-use Rattle.mum_base.specs.Perm.{Holds}
+use Rattle.mum_control.proofs.Common.{◌∙◌, ℕ, false, Option, ap, subst, sym, ◌↔◌, IsSomeAnd, IsTrue, option_map, Perm, Holds}
 use Rattle.mum_control.proofs.permission.holds.Goals as goal
 
 pub returns-in-Some : goal.returns-in-Some

@@ -1,7 +1,4 @@
-use Rattle.std.proofs.Common.{◌∙◌, ap}
-use Rattle.std.specs.Prelude.{is_some}
-use Rattle.mum_users.specs.Sessions.{session_of}
-use Rattle.mum_users.specs.State.{RosterState}
+use Rattle.mum_control.proofs.Common.{◌∙◌, ap, is_some, session_of, RosterState}
 use Rattle.mum_control.proofs.Copied.{copied_is_some}
 use Rattle.mum_control.proofs.sessions.is_there.Goals as goal
 

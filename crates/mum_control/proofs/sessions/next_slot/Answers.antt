@@ -1,9 +1,4 @@
-use Rattle.std.proofs.Common.{◌∙◌, ap, sym}
-use Rattle.std.specs.Option.{option_map}
-use Rattle.mum_base.specs.declared.number.SessionId.{SessionId}
-use Rattle.mum_base.specs.declared.number.Slot.{Slot}
-use Rattle.mum_users.specs.Sessions.{next_join}
-use Rattle.mum_users.specs.State.{RosterState}
+use Rattle.mum_control.proofs.Common.{◌∙◌, ap, sym, option_map, SessionId, Slot, next_join, RosterState}
 use Rattle.mum_control.proofs.sessions.next_slot.Goals as goal
 
 pub returns-in-Some : goal.returns-in-Some

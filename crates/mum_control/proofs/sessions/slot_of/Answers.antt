@@ -1,8 +1,4 @@
-use Rattle.std.proofs.Common.{◌≡◌, ◌∙◌, Some, ap, sym}
-use Rattle.std.specs.Option.{option_copied, option_map}
-use Rattle.mum_users.specs.Sessions.{session_of}
-use Rattle.mum_users.specs.State.{RosterState}
-use Rattle.mum_users.specs.declared.user.User.{User}
+use Rattle.mum_control.proofs.Common.{◌≡◌, ◌∙◌, Some, ap, sym, option_copied, option_map, session_of, RosterState, User}
 use Rattle.mum_control.proofs.Addressed.{session_in_slot}
 use Rattle.mum_control.proofs.sessions.slot_of.Goals as goal
 

@@ -1,4 +1,4 @@
-use Rattle.std.proofs.Common.{◌≡◌, None, replicate}
+use Rattle.mum_core.proofs.Common.{◌≡◌, None, replicate}
 use Rattle.mum_core.proofs.caches.places.Given as goal
 
 abbrev pub invariant-loop-number : goal.invariant-loop-number

@@ -1,5 +1,4 @@
-use Rattle.std.proofs.Common.{IfOk, Result, Ok, Err}
-use Rattle.mum_cache.proofs.Staying.{nothing_sound}
+use Rattle.mum_core.proofs.Common.{IfOk, Result, Ok, Err, nothing_sound}
 use Rattle.mum_core.proofs.caches.take_own_at.Goals as goal
 
 both_ok : {A E : Type 0} {P Q R : A → Type 0} (answered : Result A E) → ((x : A) → P x → Q x → R x) → IfOk answered P → IfOk answered Q → IfOk answered R

@@ -1,8 +1,4 @@
-use Rattle.std.proofs.Common.{◌≡◌, ◌∙◌, ◌<◌, ℕ, List, length, get_or, set, ap, sym, arith}
-use Rattle.std.specs.Prelude.{if◌then◌else◌}
-use Rattle.mum_users.proofs.Placed.{set-mapped}
-use Rattle.mum_core.specs.Connection.{is_of, lagging}
-use Rattle.mum_core.specs.declared.connection.Connection.{Connection}
+use Rattle.mum_core.proofs.Common.{◌≡◌, ◌∙◌, ◌<◌, ℕ, List, length, get_or, set, ap, sym, arith, if◌then◌else◌, set-mapped, is_of, lagging, Connection}
 use Rattle.mum_core.proofs.connection.lag_at_session.Goals as goal
 
 pub loop-connection-preserved : goal.loop-connection-preserved

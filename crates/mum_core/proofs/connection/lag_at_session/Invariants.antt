@@ -1,6 +1,4 @@
-use Rattle.std.proofs.Common.{◌≡◌, ◌++◌, drop, map, take}
-use Rattle.std.specs.Prelude.{if◌then◌else◌}
-use Rattle.mum_core.specs.Connection.{is_of, lagging}
+use Rattle.mum_core.proofs.Common.{◌≡◌, ◌++◌, drop, map, take, if◌then◌else◌, is_of, lagging}
 use Rattle.mum_core.proofs.connection.lag_at_session.Given as goal
 
 abbrev pub invariant-loop-connection : goal.invariant-loop-connection

@@ -1,5 +1,4 @@
-use Rattle.mum_core.proofs.Fitted.{edits_fit}
-use Rattle.mum_core.proofs.RunLaws.{accepted_grows, opening_stays, published_is_accepted, published_never_falls}
+use Rattle.mum_core.proofs.{Fitted.edits_fit, RunLaws.accepted_grows, RunLaws.opening_stays, RunLaws.published_is_accepted, RunLaws.published_never_falls}
 use Rattle.mum_core.proofs.laws.accepted_edits_are_one_list.Goals as goal
 
 pub returns-clause-grows : goal.returns-clause-grows

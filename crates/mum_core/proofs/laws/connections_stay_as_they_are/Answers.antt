@@ -1,6 +1,4 @@
-use Rattle.mum_core.proofs.Places.{connections_stay}
-use Rattle.mum_core.proofs.Settled.{closed_stays, seats_stay}
-use Rattle.mum_core.proofs.Speakers.{one_connection_a_session, one_worker_a_speaker}
+use Rattle.mum_core.proofs.{Places.connections_stay, Settled.closed_stays, Settled.seats_stay, Speakers.one_connection_a_session, Speakers.one_worker_a_speaker}
 use Rattle.mum_core.proofs.laws.connections_stay_as_they_are.Goals as goal
 
 pub returns-clause-stays : goal.returns-clause-stays

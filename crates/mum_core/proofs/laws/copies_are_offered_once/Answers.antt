@@ -1,9 +1,5 @@
-use Rattle.mum_route.specs.Hearers.{hearers_at}
-use Rattle.mum_core.specs.Core.{start, state_at}
-use Rattle.mum_core.specs.Laws.{ran}
-use Rattle.mum_core.proofs.Fitted.{lawful_all, lawful_start, state_proper}
-use Rattle.mum_core.proofs.Heard.{copies_are_the_route, hearers_are_apart, loopback_is_the_speaker, nobody_hears_itself, pairs_apart}
-use Rattle.mum_core.proofs.RunLaws.{offers_take_the_first}
+use Rattle.mum_core.proofs.Common.{hearers_at, start, state_at, ran}
+use Rattle.mum_core.proofs.{Fitted.lawful_all, Fitted.lawful_start, Fitted.state_proper, Heard.copies_are_the_route, Heard.hearers_are_apart, Heard.loopback_is_the_speaker, Heard.nobody_hears_itself, Heard.pairs_apart, RunLaws.offers_take_the_first}
 use Rattle.mum_core.proofs.laws.copies_are_offered_once.Goals as goal
 
 pub returns-clause-route : goal.returns-clause-route

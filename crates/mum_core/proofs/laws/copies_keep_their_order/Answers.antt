@@ -1,7 +1,4 @@
-use Rattle.mum_core.proofs.Alone.{alone_hears_all}
-use Rattle.mum_core.proofs.Origins.{copies_follow_packets}
-use Rattle.mum_core.proofs.Orders.{none_sent_to_absent, sent_is_conserved}
-use Rattle.mum_core.proofs.Told.{heard_is_of_removed, others_hear_none}
+use Rattle.mum_core.proofs.{Alone.alone_hears_all, Origins.copies_follow_packets, Orders.none_sent_to_absent, Orders.sent_is_conserved, Told.heard_is_of_removed, Told.others_hear_none}
 use Rattle.mum_core.proofs.laws.copies_keep_their_order.Goals as goal
 
 pub returns-clause-only_there : goal.returns-clause-only_there

@@ -1,5 +1,4 @@
-use Rattle.mum_core.proofs.Counts.{copies_are_counted}
-use Rattle.mum_core.proofs.Drains.{copies_are_drained}
+use Rattle.mum_core.proofs.{Counts.copies_are_counted, Drains.copies_are_drained}
 use Rattle.mum_core.proofs.laws.each_copy_is_counted.Goals as goal
 
 pub returns-clause-offered : goal.returns-clause-offered

@@ -1,8 +1,4 @@
-use Rattle.std.proofs.lemmas.Bool.{false≢true}
-use Rattle.mum_frame.specs.Frame.{kind_of, payload_of}
-use Rattle.mum_session.proofs.Lists.{sends}
-use Rattle.mum_core.specs.Core.{connection_at}
-use Rattle.mum_core.specs.Machine.{machine_of}
+use Rattle.mum_core.proofs.Common.{false≢true, kind_of, payload_of, sends, connection_at, machine_of}
 use Rattle.mum_core.proofs.laws.recordings_read_no_bans.Goals as goal
 
 pub returns : goal.returns

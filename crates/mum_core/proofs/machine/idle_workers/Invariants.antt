@@ -1,5 +1,4 @@
-use Rattle.std.proofs.Common.{◌≡◌, replicate}
-use Rattle.mum_core.specs.Worker.{idle}
+use Rattle.mum_core.proofs.Common.{◌≡◌, replicate, idle}
 use Rattle.mum_core.proofs.machine.idle_workers.Given as goal
 
 abbrev pub invariant-loop-number : goal.invariant-loop-number

@@ -1,4 +1,4 @@
-use Rattle.std.proofs.Common.{◌≡◌, [], replicate}
+use Rattle.mum_core.proofs.Common.{◌≡◌, [], replicate}
 use Rattle.mum_core.proofs.post.empty_posts.Given as goal
 
 abbrev pub invariant-loop-slot : goal.invariant-loop-slot

@@ -1,9 +1,7 @@
-use Rattle.std.proofs.Common.{sym}
-use Rattle.std.proofs.lemmas.Result.{IfOk-weaker}
-use Rattle.mum_rules_user.specs.declared.message.UserMessage.TheVariants as messages
+use Rattle.mum_core.proofs.Common.{sym, IfOk-weaker}
 use Rattle.mum_session.specs.declared.command.Asked.TheVariants.{User}
-use Rattle.mum_core.proofs.Decided.{fitting_seat}
-use Rattle.mum_core.proofs.Nexts.{decided_of, frame_next, leave_next}
+use Rattle.mum_core.proofs.{Decided.fitting_seat, Nexts.decided_of, Nexts.frame_next, Nexts.leave_next}
+use Rattle.mum_rules_user.specs.declared.message.UserMessage.TheVariants as messages
 use Rattle.mum_core.proofs.reply.decide_next.Goals as goal
 
 pub returns-in-Some-clause-verdict : goal.returns-in-Some-clause-verdict

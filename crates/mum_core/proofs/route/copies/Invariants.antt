@@ -1,6 +1,4 @@
-use Rattle.std.proofs.Common.{◌≡◌, take, map}
-use Rattle.mum_voice.specs.Packet.{plain_parts}
-use Rattle.mum_core.specs.steps.Look.{outgoing}
+use Rattle.mum_core.proofs.Common.{◌≡◌, take, map, plain_parts, outgoing}
 use Rattle.mum_core.proofs.route.copies.Given as goal
 
 abbrev pub invariant-loop-hearer : goal.invariant-loop-hearer

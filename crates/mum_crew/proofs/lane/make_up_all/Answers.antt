@@ -1,7 +1,5 @@
-use Rattle.std.proofs.Common.{◌<◌, length, All, IsTrue, arith}
-use Rattle.std.proofs.lemmas.List.{length-set}
-use Rattle.mum_crew.proofs.KeepLemmas.{all_set, below_set}
-use Rattle.mum_crew.proofs.TurnLemmas.{lane_set, lanes_same}
+use Rattle.mum_crew.proofs.Common.{◌<◌, length, All, IsTrue, arith, length-set}
+use Rattle.mum_crew.proofs.{KeepLemmas.all_set, KeepLemmas.below_set, TurnLemmas.lane_set, TurnLemmas.lanes_same}
 use Rattle.mum_crew.proofs.lane.make_up_all.Goals as goal
 
 pub loop-k-init : goal.loop-k-init

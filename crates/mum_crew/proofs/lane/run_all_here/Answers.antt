@@ -1,6 +1,5 @@
-use Rattle.std.proofs.Common.{◌<◌, length, All, IsTrue, arith}
-use Rattle.mum_crew.proofs.KeepLemmas.{below_set}
-use Rattle.mum_crew.proofs.TurnLemmas.{lane_set, lanes_same}
+use Rattle.mum_crew.proofs.Common.{◌<◌, length, All, IsTrue, arith}
+use Rattle.mum_crew.proofs.{KeepLemmas.below_set, TurnLemmas.lane_set, TurnLemmas.lanes_same}
 use Rattle.mum_crew.proofs.lane.run_all_here.Goals as goal
 
 pub loop-k-init : goal.loop-k-init

@@ -1,9 +1,5 @@
-use Rattle.std.proofs.Common.{◌<◌, [], length, refl, sym, ◌∙◌, rules}
-use Rattle.std.proofs.lemmas.Result.{err_from_is_err_and}
-use Rattle.serde_json.specs.View.{view}
-use Rattle.mum_document.proofs.First.{out_of_memory}
-use Rattle.mum_document.specs.Policy.{entry_fault, entry_of}
-use Rattle.mum_document.proofs.Elements.{each_step, each_stop, pushed}
+use Rattle.mum_document.proofs.Common.{◌<◌, [], length, refl, sym, ◌∙◌, rules, err_from_is_err_and, view, entry_fault, entry_of}
+use Rattle.mum_document.proofs.{First.out_of_memory, Elements.each_step, Elements.each_stop, Elements.pushed}
 use Rattle.mum_document.proofs.entry.read_entries.Goals as goal
 
 pub returns-in_err-entries : goal.returns-in_err-entries

@@ -1,7 +1,4 @@
-use Rattle.std.proofs.Common.{◌≡◌, drop, map, take}
-use Rattle.serde_json.specs.View.{view}
-use Rattle.mum_document.specs.Policy.{entry_fault, entry_of}
-use Rattle.mum_document.specs.Object.{each_fault}
+use Rattle.mum_document.proofs.Common.{◌≡◌, drop, map, take, view, entry_fault, entry_of, each_fault}
 use Rattle.mum_document.proofs.entry.read_entries.Given as goal
 
 -- the first fault is not passed yet, and what was read so far is there

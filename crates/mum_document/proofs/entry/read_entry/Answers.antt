@@ -1,8 +1,4 @@
-use Rattle.std.proofs.Common.{refl}
-use Rattle.std.proofs.lemmas.Result.{err_from_is_err_and}
-use Rattle.serde_json.specs.View.{view}
-use Rattle.std.specs.Prelude.{codes}
-use Rattle.mum_document.specs.Policy.{entry_fault, entry_of, right_rows, whom_rows}
+use Rattle.mum_document.proofs.Common.{refl, err_from_is_err_and, view, codes, entry_fault, entry_of, right_rows, whom_rows}
 use Rattle.mum_document.proofs.First.{first, later, none_said, out_of_memory, rows_first, rows_later, rows_none}
 use Rattle.mum_document.proofs.entry.read_entry.Goals as goal
 

@@ -1,5 +1,4 @@
-use Rattle.std.proofs.Common.{refl}
-use Rattle.std.proofs.lemmas.Result.{err_from_is_err_and}
+use Rattle.mum_document.proofs.Common.{refl, err_from_is_err_and}
 use Rattle.mum_document.proofs.First.{first, later, none_said}
 use Rattle.mum_document.proofs.entry.rights_in.Goals as goal
 

@@ -1,8 +1,5 @@
-use Rattle.std.proofs.Common.{sym, refl, ◌∙◌}
-use Rattle.std.proofs.lemmas.Result.{err_from_is_err_and}
-use Rattle.mum_document.proofs.First.{first, later, none_said}
-use Rattle.serde_json.specs.View.{view}
-use Rattle.mum_document.proofs.Whoms.{account_whom, group_whom}
+use Rattle.mum_document.proofs.Common.{sym, refl, ◌∙◌, err_from_is_err_and, view}
+use Rattle.mum_document.proofs.{First.first, First.later, First.none_said, Whoms.account_whom, Whoms.group_whom}
 use Rattle.mum_document.proofs.entry.whom_in.Goals as goal
 
 pub returns-in_err-account : goal.returns-in_err-account

@@ -1,6 +1,4 @@
-use Rattle.std.proofs.Common.{◌≡◌, rules}
-use Rattle.mum_document.specs.Fault.{place_text}
-use Rattle.mum_document.specs.Reading.{Names}
+use Rattle.mum_document.proofs.Common.{◌≡◌, rules, place_text, Names}
 use Rattle.mum_document.proofs.fault.seen_at.Goals as goal
 
 pub returns-in-Ok : goal.returns-in-Ok

@@ -1,5 +1,4 @@
-use Rattle.std.proofs.Common.{rules}
-use Rattle.mum_document.specs.Reading.{Names}
+use Rattle.mum_document.proofs.Common.{rules, Names}
 use Rattle.mum_document.proofs.First.{moved}
 use Rattle.mum_document.proofs.fault.seen_from.Goals as goal
 

@@ -1,11 +1,5 @@
-use Rattle.std.proofs.Common.{◌++◌, [], map, sym, refl}
-use Rattle.std.specs.Prelude.{codes}
-use Rattle.std.proofs.lemmas.Result.{err_from_is_err_and}
-use Rattle.serde_json.specs.View.{view}
-use Rattle.mum_document.proofs.First.{first}
-use Rattle.mum_document.proofs.Lists.{given_none, given_some, list_absent, list_faulty, list_good}
-use Rattle.mum_document.specs.Object.{elements_fault}
-use Rattle.mum_document.specs.Policy.{group_fault, group_of, with_group_met}
+use Rattle.mum_document.proofs.Common.{◌++◌, [], map, sym, refl, codes, err_from_is_err_and, view, elements_fault, group_fault, group_of, with_group_met}
+use Rattle.mum_document.proofs.{First.first, Lists.given_none, Lists.given_some, Lists.list_absent, Lists.list_faulty, Lists.list_good}
 use Rattle.mum_document.proofs.given.groups_in.Goals as goal
 
 pub returns-in_err-values : goal.returns-in_err-values

@@ -1,11 +1,5 @@
-use Rattle.std.proofs.Common.{◌++◌, map, sym, refl}
-use Rattle.std.proofs.lemmas.Result.{err_from_is_err_and}
-use Rattle.serde_json.specs.View.{view}
-use Rattle.mum_document.proofs.First.{first}
-use Rattle.mum_document.proofs.Lists.{given_none, given_some, list_absent, list_read}
-use Rattle.mum_document.specs.Value.{greatest, number_fault}
-use Rattle.mum_document.specs.Object.{each_fault}
-use Rattle.mum_document.specs.Policy.{account_of}
+use Rattle.mum_document.proofs.Common.{◌++◌, map, sym, refl, err_from_is_err_and, view, greatest, number_fault, each_fault, account_of}
+use Rattle.mum_document.proofs.{First.first, Lists.given_none, Lists.given_some, Lists.list_absent, Lists.list_read}
 use Rattle.mum_document.proofs.group.accounts_in.Goals as goal
 
 pub returns-in_err-values : goal.returns-in_err-values

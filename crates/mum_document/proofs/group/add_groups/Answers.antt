@@ -1,7 +1,4 @@
-use Rattle.std.proofs.Common.{◌<◌, List, ℕ, length, map, refl, sym, ◌∙◌, rules}
-use Rattle.std.proofs.lemmas.Result.{err_from_is_err_and}
-use Rattle.serde_json.specs.View.{view}
-use Rattle.mum_document.specs.Policy.{group_fault, group_of, with_group_met}
+use Rattle.mum_document.proofs.Common.{◌<◌, List, ℕ, length, map, refl, sym, ◌∙◌, rules, err_from_is_err_and, view, group_fault, group_of, with_group_met}
 use Rattle.mum_document.proofs.Elements.{elements_step, elements_stop, pushed}
 use Rattle.mum_document.proofs.group.add_groups.Goals as goal
 

@@ -1,7 +1,4 @@
-use Rattle.std.proofs.Common.{◌≡◌, ◌++◌, drop, map, take}
-use Rattle.serde_json.specs.View.{view}
-use Rattle.mum_document.specs.Object.{elements_fault}
-use Rattle.mum_document.specs.Policy.{group_fault, group_of, with_group_met}
+use Rattle.mum_document.proofs.Common.{◌≡◌, ◌++◌, drop, map, take, view, elements_fault, group_fault, group_of, with_group_met}
 use Rattle.mum_document.proofs.group.add_groups.Given as goal
 
 -- the first fault is not passed yet, and the groups so far are there

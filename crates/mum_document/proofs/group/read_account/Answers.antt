@@ -1,4 +1,4 @@
-use Rattle.std.proofs.Common.{refl}
+use Rattle.mum_document.proofs.Common.{refl}
 use Rattle.mum_document.proofs.group.read_account.Goals as goal
 
 pub returns-in-Ok : goal.returns-in-Ok

@@ -1,10 +1,5 @@
-use Rattle.std.proofs.Common.{◌<◌, [], length, sym, ◌∙◌, rules}
-use Rattle.std.proofs.lemmas.Result.{err_from_is_err_and}
-use Rattle.serde_json.specs.View.{view}
-use Rattle.mum_document.proofs.First.{out_of_memory}
-use Rattle.mum_document.specs.Value.{greatest, number_fault}
-use Rattle.mum_document.specs.Policy.{account_of}
-use Rattle.mum_document.proofs.Elements.{each_step, each_stop, pushed}
+use Rattle.mum_document.proofs.Common.{◌<◌, [], length, sym, ◌∙◌, rules, err_from_is_err_and, view, greatest, number_fault, account_of}
+use Rattle.mum_document.proofs.{First.out_of_memory, Elements.each_step, Elements.each_stop, Elements.pushed}
 use Rattle.mum_document.proofs.group.read_accounts.Goals as goal
 
 pub returns-in_err-accounts : goal.returns-in_err-accounts

@@ -1,8 +1,4 @@
-use Rattle.std.proofs.Common.{◌≡◌, drop, map, take}
-use Rattle.serde_json.specs.View.{view}
-use Rattle.mum_document.specs.Value.{greatest, number_fault}
-use Rattle.mum_document.specs.Policy.{account_of}
-use Rattle.mum_document.specs.Object.{each_fault}
+use Rattle.mum_document.proofs.Common.{◌≡◌, drop, map, take, view, greatest, number_fault, account_of, each_fault}
 use Rattle.mum_document.proofs.group.read_accounts.Given as goal
 
 -- the first fault is not passed yet, and what was read so far is there

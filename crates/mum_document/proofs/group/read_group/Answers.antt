@@ -1,10 +1,5 @@
-use Rattle.std.proofs.Common.{◌++◌, map, refl}
-use Rattle.std.specs.Prelude.{codes}
-use Rattle.std.proofs.lemmas.Result.{err_from_is_err_and}
-use Rattle.serde_json.specs.View.{view}
+use Rattle.mum_document.proofs.Common.{◌++◌, map, refl, codes, err_from_is_err_and, view, new_name_rows, group_fault, group_of, id_rows, inheriting_rows}
 use Rattle.mum_document.proofs.First.{first, later, none_said, out_of_memory, rows_first, rows_later, rows_none}
-use Rattle.mum_document.specs.Object.{new_name_rows}
-use Rattle.mum_document.specs.Policy.{group_fault, group_of, id_rows, inheriting_rows}
 use Rattle.mum_document.proofs.group.read_group.Goals as goal
 
 pub returns-in_err-open-clause-reads : goal.returns-in_err-open-clause-reads

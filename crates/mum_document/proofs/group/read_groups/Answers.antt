@@ -1,4 +1,4 @@
-use Rattle.std.proofs.lemmas.Result.{err_from_is_err_and}
+use Rattle.mum_document.proofs.Common.{err_from_is_err_and}
 use Rattle.mum_document.proofs.First.{out_of_memory}
 use Rattle.mum_document.proofs.group.read_groups.Goals as goal
 

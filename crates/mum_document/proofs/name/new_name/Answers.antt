@@ -1,13 +1,5 @@
-use Rattle.std.proofs.Common.{sym, ap, refl, ◌∙◌}
-use Rattle.std.specs.Prelude.{codes}
-use Rattle.std.specs.List.{list_any}
-use Rattle.std.specs.Str.{bytes_eq}
-use Rattle.std.proofs.lemmas.Result.{err_from_is_err_and}
-use Rattle.serde_json.specs.View.{view}
-use Rattle.mum_document.proofs.First.{first, later, none_said, not_new, out_of_memory}
-use Rattle.mum_document.specs.Object.{text_at}
-use Rattle.mum_document.proofs.Objects.{list_any-now}
-use Rattle.mum_document.proofs.Sets.{inserted, inserted_names, none_against}
+use Rattle.mum_document.proofs.Common.{sym, ap, refl, ◌∙◌, codes, list_any, bytes_eq, err_from_is_err_and, view, text_at}
+use Rattle.mum_document.proofs.{First.first, First.later, First.none_said, First.not_new, First.out_of_memory, Objects.list_any-now, Sets.inserted, Sets.inserted_names, Sets.none_against}
 use Rattle.mum_document.proofs.name.new_name.Goals as goal
 
 pub returns-in_err-name-clause-reads : goal.returns-in_err-name-clause-reads

@@ -1,4 +1,4 @@
-use Rattle.std.proofs.Common.{◌<◌, ◌≤◌, length, rules}
+use Rattle.mum_document.proofs.Common.{◌<◌, ◌≤◌, length, rules}
 use Rattle.mum_document.proofs.Values.{list_fault-fits, list_fault-over}
 use Rattle.mum_document.proofs.value.read_list.Goals as goal
 

@@ -1,4 +1,4 @@
-use Rattle.std.proofs.Common.{refl}
+use Rattle.mum_exercise.proofs.Common.{refl}
 use Rattle.mum_exercise.proofs.Asking.{aim_fits}
 use Rattle.mum_exercise.proofs.acts.aim_frame.Goals as goal
 

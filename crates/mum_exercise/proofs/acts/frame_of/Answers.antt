@@ -1,5 +1,4 @@
-use Rattle.std.proofs.Common.{ℕ, ◌≤◌, List, length, sym, subst, arith, ◌∙◌}
-use Rattle.mum_frame.specs.declared.frame.TheConstants.{PAYLOAD_LIMIT}
+use Rattle.mum_exercise.proofs.Common.{ℕ, ◌≤◌, List, length, sym, subst, arith, ◌∙◌, PAYLOAD_LIMIT}
 use Rattle.mum_exercise.proofs.Asking.{frames_one}
 use Rattle.mum_exercise.proofs.acts.frame_of.Goals as goal
 

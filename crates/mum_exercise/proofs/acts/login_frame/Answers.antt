@@ -1,4 +1,4 @@
-use Rattle.std.proofs.Common.{arith}
+use Rattle.mum_exercise.proofs.Common.{arith}
 use Rattle.mum_exercise.proofs.Asking.{login_fits}
 use Rattle.mum_exercise.proofs.acts.login_frame.Goals as goal
 

@@ -1,5 +1,4 @@
-use Rattle.std.proofs.Common.{ℕ, ◌≤◌, List, length, sym, subst, arith}
-use Rattle.mum_frame.specs.declared.kind.TheConstants.{UDP_TUNNEL}
+use Rattle.mum_exercise.proofs.Common.{ℕ, ◌≤◌, List, length, sym, subst, arith, UDP_TUNNEL}
 use Rattle.mum_exercise.proofs.Asking.{frames_one}
 use Rattle.mum_exercise.proofs.acts.voice_frame.Goals as goal
 

@@ -1,9 +1,4 @@
-use Rattle.std.proofs.Common.{◌≡◌, ◌∷◌, ◌++◌, [], ap, ◌∙◌}
-use Rattle.std.specs.Prelude.{string_bytes}
-use Rattle.std.proofs.lemmas.Result.{IfOk-weaker}
-use Rattle.mum_core.specs.Core.{CoreState}
-use Rattle.mum_record.specs.Words.{line_of_words}
-use Rattle.mum_exercise.specs.Exercise.{account, numbers_words, exercised}
+use Rattle.mum_exercise.proofs.Common.{◌≡◌, ◌∷◌, ◌++◌, [], ap, ◌∙◌, string_bytes, IfOk-weaker, CoreState, line_of_words, account, numbers_words, exercised}
 use Rattle.mum_exercise.proofs.Turns.{accounts}
 use Rattle.mum_exercise.proofs.exercise.account.Goals as goal
 

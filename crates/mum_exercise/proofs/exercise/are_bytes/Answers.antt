@@ -1,4 +1,4 @@
-use Rattle.std.proofs.Common.{arith}
+use Rattle.mum_exercise.proofs.Common.{arith}
 use Rattle.mum_exercise.proofs.exercise.are_bytes.Goals as goal
 
 pub returns : goal.returns

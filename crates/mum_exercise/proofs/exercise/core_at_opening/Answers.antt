@@ -1,10 +1,5 @@
 -- The document of an exercise has no fault, and the core begins at what it describes.
-use Rattle.std.proofs.Common.{◌≡◌, ◌∙◌, None, IfOk, ap, subst}
-use Rattle.mum_record.specs.declared.head.Version.TheVariants.{One}
-use Rattle.mum_state.specs.State.{StateValue}
-use Rattle.mum_core.specs.Core.{start}
-use Rattle.mum_opening.specs.Opening.{document_fault, opening}
-use Rattle.mum_exercise.specs.declared.exercise.TheConstants.{WORKERS}
+use Rattle.mum_exercise.proofs.Common.{◌≡◌, ◌∙◌, None, IfOk, ap, subst, One, StateValue, start, document_fault, opening, WORKERS}
 use Rattle.mum_exercise.proofs.Documents.{document_good, document_read}
 use Rattle.mum_exercise.proofs.exercise.core_at_opening.Goals as goal
 

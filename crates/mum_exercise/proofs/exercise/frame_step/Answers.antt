@@ -1,5 +1,4 @@
-use Rattle.std.proofs.Common.{List, ℕ, ◌<◌, subst, arith}
-use Rattle.std.specs.Prelude.{slice_index}
+use Rattle.mum_exercise.proofs.Common.{List, ℕ, ◌<◌, subst, arith, slice_index}
 use Rattle.mum_exercise.proofs.exercise.frame_step.Goals as goal
 
 pub returns-clause-recordable : goal.returns-clause-recordable

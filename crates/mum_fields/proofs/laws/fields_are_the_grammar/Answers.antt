@@ -1,5 +1,4 @@
-use Rattle.mum_fields.proofs.Payloads.{fields-are, are-fields}
-use Rattle.mum_fields.proofs.Stops.{fields-stop, stops-fields}
+use Rattle.mum_fields.proofs.{Payloads.fields-are, Payloads.are-fields, Stops.fields-stop, Stops.stops-fields}
 use Rattle.mum_fields.proofs.laws.fields_are_the_grammar.Goals as goal
 
 pub returns-clause-whole : goal.returns-clause-whole

@@ -1,9 +1,5 @@
-use Rattle.std.proofs.Common.{◌≡◌, Ok, refl, sym, ap, ◌∙◌}
-use Rattle.mum_fields.specs.Field.{entry_of}
-use Rattle.mum_fields.specs.Payload.{fields, ended, first}
-use Rattle.mum_fields.specs.Table.{layout, parts, values_after, rules}
-use Rattle.mum_fields.proofs.Decoding.{outcome-next, outcome-end}
-use Rattle.mum_fields.proofs.Steps.{after-nothing, after-next}
+use Rattle.mum_fields.proofs.Common.{◌≡◌, Ok, refl, sym, ap, ◌∙◌, entry_of, fields, ended, first, layout, parts, values_after, rules}
+use Rattle.mum_fields.proofs.{Decoding.outcome-next, Decoding.outcome-end, Steps.after-nothing, Steps.after-next}
 use Rattle.mum_fields.proofs.message.gather.Goals as goal
 
 pub loop-message-init : goal.loop-message-init

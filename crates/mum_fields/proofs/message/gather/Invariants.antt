@@ -1,7 +1,4 @@
-use Rattle.std.proofs.Common.{◌≡◌, length}
-use Rattle.mum_fields.specs.Payload.{fields}
-use Rattle.mum_fields.specs.Message.{outcome}
-use Rattle.mum_fields.specs.Table.{layout, parts, values_after, rules, gathered}
+use Rattle.mum_fields.proofs.Common.{◌≡◌, length, fields, outcome, layout, parts, values_after, rules, gathered}
 use Rattle.mum_fields.proofs.message.gather.Given as goal
 
 abbrev pub invariant-loop-message : goal.invariant-loop-message

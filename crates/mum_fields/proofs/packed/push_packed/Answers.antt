@@ -1,7 +1,4 @@
-use Rattle.std.proofs.Common.{◌≡◌, ◌++◌, ◌∷◌, [], length, map, refl, sym, ap, ◌∙◌, append_assoc}
-use Rattle.std.proofs.lemmas.List.{append-nil}
-use Rattle.std.proofs.lemmas.Result.{err_from_is_err_and}
-use Rattle.mum_fields.specs.Payload.{packed, ended, first}
+use Rattle.mum_fields.proofs.Common.{◌≡◌, ◌++◌, ◌∷◌, [], length, map, refl, sym, ap, ◌∙◌, append_assoc, append-nil, err_from_is_err_and, packed, ended, first}
 use Rattle.mum_fields.proofs.Walks.{front-of}
 use Rattle.mum_fields.proofs.packed.push_packed.Goals as goal
 

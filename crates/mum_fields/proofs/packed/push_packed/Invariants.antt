@@ -1,5 +1,4 @@
-use Rattle.std.proofs.Common.{◌≡◌, List, ◌++◌, length, map}
-use Rattle.mum_fields.specs.Payload.{packed}
+use Rattle.mum_fields.proofs.Common.{◌≡◌, List, ◌++◌, length, map, packed}
 use Rattle.mum_fields.proofs.packed.push_packed.Given as goal
 
 abbrev pub invariant-loop-number : goal.invariant-loop-number

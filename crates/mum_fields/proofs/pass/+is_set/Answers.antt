@@ -1,5 +1,4 @@
-use Rattle.mum_fields.specs.Survey.{number_of}
-use Rattle.std.proofs.Common.{◌≡◌, sym, ◌∙◌}
+use Rattle.mum_fields.proofs.Common.{number_of, ◌≡◌, sym, ◌∙◌}
 use Rattle.mum_fields.proofs.Passes.{own-set, later-set, set-in, in-set}
 use Rattle.mum_fields.proofs.pass.+is_set.Goals as goal
 

@@ -1,4 +1,4 @@
-use Rattle.std.proofs.Common.{length}
+use Rattle.mum_fields.proofs.Common.{length}
 use Rattle.mum_fields.proofs.pass.+is_set.Given as goal
 
 abbrev pub decreases-is_set : goal.decreases-is_set

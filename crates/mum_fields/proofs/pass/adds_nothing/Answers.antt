@@ -1,6 +1,5 @@
-use Rattle.std.proofs.Common.{◌∙◌}
-use Rattle.mum_fields.proofs.Passes.{missing-unset}
-use Rattle.mum_fields.proofs.Sums.{none-tested}
+use Rattle.mum_fields.proofs.Common.{◌∙◌}
+use Rattle.mum_fields.proofs.{Passes.missing-unset, Sums.none-tested}
 use Rattle.mum_fields.proofs.pass.adds_nothing.Goals as goal
 
 pub returns-in_default-clause-missing : goal.returns-in_default-clause-missing

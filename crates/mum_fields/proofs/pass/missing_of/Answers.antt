@@ -1,9 +1,5 @@
-use Rattle.std.proofs.Common.{◌≡◌, false, sym, ap, ◌∙◌}
-use Rattle.mum_fields.specs.Survey.{form_of, label_of, number_of}
-use Rattle.mum_fields.specs.Table.{is_set}
-use Rattle.std.proofs.Common.{map}
-use Rattle.mum_fields.proofs.Kept.{set-missing}
-use Rattle.mum_fields.proofs.Passes.{missing-required, missing-other, missing-unset}
+use Rattle.mum_fields.proofs.Common.{◌≡◌, false, sym, ap, ◌∙◌, form_of, label_of, number_of, is_set, map}
+use Rattle.mum_fields.proofs.{Kept.set-missing, Passes.missing-required, Passes.missing-other, Passes.missing-unset}
 use Rattle.mum_fields.proofs.pass.missing_of.Goals as goal
 
 pub returns-then-part-gt0 : goal.returns-then-part-gt0

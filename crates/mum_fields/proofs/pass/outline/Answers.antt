@@ -1,12 +1,10 @@
-use Rattle.std.proofs.Common.{map, arith}
-use Rattle.std.proofs.lemmas.List.{length-map}
-use Rattle.mum_fields.proofs.Kept.{nothing-kept}
-use Rattle.mum_fields.proofs.Passes.{room-few}
+use Rattle.mum_fields.proofs.Common.{map, arith, length-map}
+use Rattle.mum_fields.proofs.{Kept.nothing-kept, Passes.room-few}
 use Rattle.mum_fields.proofs.pass.outline.Goals as goal
 
 pub outline_in-requires-clause-empty : goal.outline_in-requires-clause-empty
 outline_in-requires-clause-empty g c =
-    let few = c.if-rows-le-FEW_SLOTS.true in
+    let few = c.if-rows-le-FEW_FIELDS.true in
     nothing-kept (map g.S.Row.slot c.args.rows.now) 8 (omega (arith, few, length-map c.args.rows.now g.S.Row.slot))
 
 pub outline_in-requires-2-clause-empty : goal.outline_in-requires-2-clause-empty

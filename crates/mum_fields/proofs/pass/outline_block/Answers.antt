@@ -1,6 +1,5 @@
-use Rattle.mum_fields.specs.Survey.{flat}
-use Rattle.mum_fields.proofs.Blanks.{outlined-nothing, outlined-within}
-use Rattle.mum_fields.proofs.Taking.{tested_empty}
+use Rattle.mum_fields.proofs.Common.{flat}
+use Rattle.mum_fields.proofs.{Blanks.outlined-nothing, Blanks.outlined-within, Taking.tested_empty}
 use Rattle.mum_fields.proofs.pass.outline_block.Goals as goal
 
 pub returns-then-is_empty : goal.returns-then-is_empty

@@ -1,8 +1,4 @@
-use Rattle.std.proofs.Common.{◌≡◌, [], ◌∷◌, map, refl, ◌∙◌}
-use Rattle.mum_fields.specs.Field.{entry_of}
-use Rattle.mum_fields.specs.Payload.{fields, first, ended}
-use Rattle.mum_fields.specs.Survey.{form_of}
-use Rattle.mum_fields.specs.Table.{no_values, values_after}
+use Rattle.mum_fields.proofs.Common.{◌≡◌, [], ◌∷◌, map, refl, ◌∙◌, entry_of, fields, first, ended, form_of, no_values, values_after}
 use Rattle.mum_fields.proofs.Passes.{outline-more, outline-ends}
 use Rattle.mum_fields.proofs.pass.outline_in.Goals as goal
 

@@ -1,8 +1,4 @@
-use Rattle.std.proofs.Common.{◌≡◌, length, map}
-use Rattle.mum_fields.specs.Payload.{fields}
-use Rattle.mum_fields.specs.Message.{outcome}
-use Rattle.mum_fields.specs.Table.{Values, values_after, rules, gathered}
-use Rattle.mum_fields.specs.Survey.{AreParts, form_of}
+use Rattle.mum_fields.proofs.Common.{◌≡◌, length, map, fields, outcome, Values, values_after, rules, gathered, AreParts, form_of}
 use Rattle.mum_fields.proofs.pass.outline_in.Given as goal
 
 abbrev pub invariant-loop-placed : goal.invariant-loop-placed

@@ -1,6 +1,4 @@
-use Rattle.std.proofs.Common.{◌≢◌, take}
-use Rattle.std.specs.List.{All}
-use Rattle.mum_fields.specs.Survey.{number_of}
+use Rattle.mum_fields.proofs.Common.{◌≢◌, take, All, number_of}
 use Rattle.mum_fields.proofs.pass.place_of.Given as goal
 
 abbrev pub invariant-loop-i : goal.invariant-loop-i

@@ -1,6 +1,5 @@
-use Rattle.std.proofs.Common.{arith, refl}
-use Rattle.mum_fields.proofs.Passes.{sums-in}
-use Rattle.mum_fields.proofs.Sums.{adds-none, adds-next, adds-same, adds-to, adds-all}
+use Rattle.mum_fields.proofs.Common.{arith, refl}
+use Rattle.mum_fields.proofs.{Passes.sums-in, Sums.adds-none, Sums.adds-next, Sums.adds-same, Sums.adds-to, Sums.adds-all}
 use Rattle.mum_fields.proofs.pass.sum_up.Goals as goal
 
 pub loop-i-init : goal.loop-i-init

@@ -1,4 +1,4 @@
-use Rattle.std.proofs.Common.{◌-◌, ◌^◌, ◌≤◌}
+use Rattle.mum_fields.proofs.Common.{◌-◌, ◌^◌, ◌≤◌}
 use Rattle.mum_fields.proofs.Sums.{Adds}
 use Rattle.mum_fields.proofs.pass.sum_up.Given as goal
 

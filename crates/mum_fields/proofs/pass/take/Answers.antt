@@ -1,7 +1,4 @@
-use Rattle.std.proofs.Common.{◌≡◌, sym, ap, ◌∙◌, refl}
-use Rattle.std.proofs.lemmas.Result.{err_from_is_err_and}
-use Rattle.mum_fields.specs.Field.{entry_of}
-use Rattle.mum_fields.specs.Survey.{number_of}
+use Rattle.mum_fields.proofs.Common.{◌≡◌, sym, ap, ◌∙◌, refl, err_from_is_err_and, entry_of, number_of}
 use Rattle.mum_fields.proofs.Passes.{row-sound, take-other, take-own, take-fault}
 use Rattle.mum_fields.proofs.pass.take.Goals as goal
 

@@ -1,11 +1,5 @@
-use Rattle.std.proofs.Common.{◌≡◌, ◌+◌, ◌-◌, ◌^◌, ◌++◌, ◌∷◌, [], map, min, refl, sym, ap, ◌∙◌, arith}
-use Rattle.std.proofs.lemmas.Result.{err_from_is_err_and}
-use Rattle.mum_fields.specs.Payload.{packed, ended, first}
-use Rattle.mum_fields.specs.Survey.{size}
-use Rattle.mum_fields.specs.Table.{scalar_number, value_of}
-use Rattle.mum_fields.specs.Written.{each_number, varint_item}
-use Rattle.mum_fields.proofs.Outlines.{answered-fault, answered-whole}
-use Rattle.mum_fields.proofs.Sizes.{size-append, sum-more}
+use Rattle.mum_fields.proofs.Common.{◌≡◌, ◌+◌, ◌-◌, ◌^◌, ◌++◌, ◌∷◌, [], map, min, refl, sym, ap, ◌∙◌, arith, err_from_is_err_and, packed, ended, first, size, scalar_number, value_of, each_number, varint_item}
+use Rattle.mum_fields.proofs.{Outlines.answered-fault, Outlines.answered-whole, Sizes.size-append, Sizes.sum-more}
 use Rattle.mum_fields.proofs.size.packed_size.Goals as goal
 
 pub loop-varint-init : goal.loop-varint-init

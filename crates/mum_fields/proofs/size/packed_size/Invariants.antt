@@ -1,8 +1,4 @@
-use Rattle.std.proofs.Common.{◌≡◌, ◌+◌, ◌-◌, ◌^◌, ◌≤◌, length, map, min}
-use Rattle.mum_fields.specs.Payload.{packed}
-use Rattle.mum_fields.specs.Survey.{size}
-use Rattle.mum_fields.specs.Table.{scalar_number, value_of}
-use Rattle.mum_fields.specs.Written.{each_number}
+use Rattle.mum_fields.proofs.Common.{◌≡◌, ◌+◌, ◌-◌, ◌^◌, ◌≤◌, length, map, min, packed, size, scalar_number, value_of, each_number}
 use Rattle.mum_fields.proofs.size.packed_size.Given as goal
 
 abbrev pub invariant-loop-varint : goal.invariant-loop-varint

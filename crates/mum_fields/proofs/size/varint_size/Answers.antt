@@ -1,7 +1,5 @@
-use Rattle.std.proofs.Common.{◌≡◌, ◌+◌, ◌%◌, ◌≤◌, ◌++◌, ◌∷◌, [], length, refl, ◌∙◌, arith}
-use Rattle.std.proofs.lemmas.List.{length-append}
-use Rattle.mum_fields.proofs.Spellings.{Rest-whole, Rest-more}
-use Rattle.mum_fields.proofs.Sizes.{rest-few, rest-last}
+use Rattle.mum_fields.proofs.Common.{◌≡◌, ◌+◌, ◌%◌, ◌≤◌, ◌++◌, ◌∷◌, [], length, refl, ◌∙◌, arith, length-append}
+use Rattle.mum_fields.proofs.{Spellings.Rest-whole, Spellings.Rest-more, Sizes.rest-few, Sizes.rest-last}
 use Rattle.mum_fields.proofs.size.varint_size.Goals as goal
 
 pub loop-rest-init : goal.loop-rest-init

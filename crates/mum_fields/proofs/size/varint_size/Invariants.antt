@@ -1,5 +1,4 @@
-use Rattle.std.proofs.Common.{◌≡◌, ℕ, ◌+◌, List, length}
-use Rattle.mum_fields.specs.Varint.{shortest}
+use Rattle.mum_fields.proofs.Common.{◌≡◌, ℕ, ◌+◌, List, length, shortest}
 use Rattle.mum_fields.proofs.Spellings.{Rest}
 use Rattle.mum_fields.proofs.size.varint_size.Given as goal
 

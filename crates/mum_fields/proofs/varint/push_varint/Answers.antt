@@ -1,5 +1,4 @@
-use Rattle.std.proofs.Common.{◌++◌, ◌∷◌, [], ◌+◌, ◌%◌, sym, ap, ◌∙◌, append_assoc, arith}
-use Rattle.std.proofs.lemmas.List.{append-nil}
+use Rattle.mum_fields.proofs.Common.{◌++◌, ◌∷◌, [], ◌+◌, ◌%◌, sym, ap, ◌∙◌, append_assoc, arith, append-nil}
 use Rattle.mum_fields.proofs.Spellings.{Rest-whole, Rest-more}
 use Rattle.mum_fields.proofs.varint.push_varint.Goals as goal
 

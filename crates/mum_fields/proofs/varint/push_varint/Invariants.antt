@@ -1,5 +1,4 @@
-use Rattle.std.proofs.Common.{◌≡◌, ◌++◌, List, ℕ}
-use Rattle.mum_fields.specs.Varint.{shortest}
+use Rattle.mum_fields.proofs.Common.{◌≡◌, ◌++◌, List, ℕ, shortest}
 use Rattle.mum_fields.proofs.Spellings.{Rest}
 use Rattle.mum_fields.proofs.varint.push_varint.Given as goal
 

@@ -1,6 +1,4 @@
-use Rattle.std.proofs.Common.{◌≡◌, ◌-◌, ◌≤◌, get_or, sym, ◌∙◌, arith, refl}
-use Rattle.std.proofs.lemmas.Grind.{pow_more}
-use Rattle.std.proofs.Math.Nat.{mul-le-mul_left}
+use Rattle.mum_fields.proofs.Common.{◌≡◌, ◌-◌, ◌≤◌, get_or, sym, ◌∙◌, arith, refl, pow_more, mul-le-mul_left}
 use Rattle.mum_fields.proofs.Varints.{behind-start, behind-more}
 use Rattle.mum_fields.proofs.varint.read_varint.Goals as goal
 

@@ -1,5 +1,4 @@
-use Rattle.std.proofs.Common.{◌≡◌, ◌-◌, ◌^◌, ◌<◌, ◌≤◌, drop}
-use Rattle.mum_fields.specs.Varint.{varint, varint_with}
+use Rattle.mum_fields.proofs.Common.{◌≡◌, ◌-◌, ◌^◌, ◌<◌, ◌≤◌, drop, varint, varint_with}
 use Rattle.mum_fields.proofs.Varints.{behind}
 use Rattle.mum_fields.proofs.varint.read_varint.Given as goal
 

@@ -1,7 +1,4 @@
-use Rattle.std.proofs.Common.{ℕ, ◌≡◌, ◌-◌, List, length, take, drop, refl, ap, sym, ◌∙◌, arith}
-use Rattle.std.proofs.lemmas.List.{length-drop, take_rest}
-use Rattle.mum_frame.specs.declared.frame.TheConstants.{HEADER_LENGTH}
-use Rattle.mum_frame.specs.Frame.{named_length}
+use Rattle.mum_frame.proofs.Common.{ℕ, ◌≡◌, ◌-◌, List, length, take, drop, refl, ap, sym, ◌∙◌, arith, length-drop, take_rest, HEADER_LENGTH, named_length}
 use Rattle.mum_frame.proofs.Headers.{HasNoFrame-no_header, HasNoFrame-cut, named_length-rest, whole_is}
 use Rattle.mum_frame.proofs.frame.first_frame.Goals as goal
 

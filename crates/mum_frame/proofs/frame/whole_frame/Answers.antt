@@ -1,15 +1,6 @@
-use Rattle.std.proofs.Common.{◌≡◌, ℕ, ◌+◌, List, [], ◌++◌, length, refl, arith, sym, ap, ◌∙◌}
-use Rattle.std.proofs.lemmas.List.{append-nil}
-use Rattle.mum_frame.specs.declared.frame.FirstFrame.{FirstFrame}
-use Rattle.mum_frame.specs.declared.frame.FirstFrame.TheVariants.{Whole, Partial, AboveLimit}
-use Rattle.mum_frame.specs.declared.frame.FrameView.{FrameView}
-use Rattle.mum_frame.specs.declared.frame.Frame.{Frame}
-use Rattle.mum_frame.specs.Frame.{frame_spelling, HasNoFrame, kind_of, payload_of}
-use Rattle.mum_frame.specs.First.{viewed, IsFirst}
-use Rattle.mum_frame.proofs.Headers.{spelling-injective, length-spelling_of, HasNoFrame-above_limit}
-use Rattle.mum_frame.proofs.OneFrame.{alone_is, kind_of-spelling, payload_of-spelling}
+use Rattle.mum_frame.proofs.Common.{◌≡◌, ℕ, ◌+◌, List, [], ◌++◌, length, refl, arith, sym, ap, ◌∙◌, append-nil, FirstFrame, Whole, Partial, AboveLimit, FrameView, Frame, frame_spelling, HasNoFrame, kind_of, payload_of, viewed, IsFirst}
+use Rattle.mum_frame.proofs.{Headers.spelling-injective, Headers.length-spelling_of, Headers.HasNoFrame-above_limit, OneFrame.alone_is, OneFrame.kind_of-spelling, OneFrame.payload_of-spelling, frame.whole_frame.Goals.in_default-via-in-Whole+else-bytes-view, frame.whole_frame.Goals.in_default-via-in_default}
 use Rattle.mum_frame.proofs.frame.whole_frame.Goals as goal
-use Rattle.mum_frame.proofs.frame.whole_frame.Goals.{in_default-via-in-Whole+else-bytes-view, in_default-via-in_default}
 
 pub returns-in-Whole-clause-kind : goal.returns-in-Whole-clause-kind
 returns-in-Whole-clause-kind c =

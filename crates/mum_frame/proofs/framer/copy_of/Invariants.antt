@@ -1,5 +1,4 @@
-use Rattle.std.proofs.Common.{◌≡◌, length, take}
-use Rattle.std.specs.Vec.{vec_capacity, vec_len}
+use Rattle.mum_frame.proofs.Common.{◌≡◌, length, take, vec_capacity, vec_len}
 use Rattle.mum_frame.proofs.framer.copy_of.Given as goal
 
 abbrev pub invariant-loop-byte : goal.invariant-loop-byte

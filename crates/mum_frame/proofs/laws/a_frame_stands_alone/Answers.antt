@@ -1,6 +1,4 @@
-use Rattle.std.proofs.Common.{◌<◌, ℕ, length, get_or, inl, inr, arith}
-use Rattle.std.proofs.lemmas.Bool.{cases_lt}
-use Rattle.std.proofs.lemmas.List.{get_or_past}
+use Rattle.mum_frame.proofs.Common.{◌<◌, ℕ, length, get_or, inl, inr, arith, cases_lt, get_or_past}
 use Rattle.mum_frame.proofs.OneFrame.{kind_of-spelling, one_frame-found, one_frame-tested, payload_of-spelling}
 use Rattle.mum_frame.proofs.laws.a_frame_stands_alone.Goals as goal
 

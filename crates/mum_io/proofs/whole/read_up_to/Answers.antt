@@ -1,5 +1,4 @@
-use Rattle.std.proofs.Common.{arith, rules, length-take, ◌∙◌, ◌++◌, take}
-use Rattle.std.proofs.KnownBytes.{Consumes-kept, Consumes-trans}
+use Rattle.mum_io.proofs.Common.{arith, rules, length-take, ◌∙◌, ◌++◌, take, Consumes-kept, Consumes-trans}
 use Rattle.mum_io.proofs.WholeLemmas.{on_err, IsAllOrLonger-at_end, IsAllOrLonger-past_limit}
 use Rattle.mum_io.proofs.whole.read_up_to.Goals as goal
 

@@ -1,5 +1,4 @@
-use Rattle.std.proofs.Common.{◌≡◌, ◌+◌, ◌-◌, ◌≤◌, vec_len}
-use Rattle.mum_io.specs.Outside.{Consumes}
+use Rattle.mum_io.proofs.Common.{◌≡◌, ◌+◌, ◌-◌, ◌≤◌, vec_len, Consumes}
 use Rattle.mum_io.proofs.whole.read_up_to.Given as goal
 
 abbrev pub invariant-loop-chunk : goal.invariant-loop-chunk

@@ -1,5 +1,4 @@
-use Rattle.std.proofs.Common.{arith, length-drop, ◌∙◌}
-use Rattle.std.proofs.lemmas.List.{take_rest}
+use Rattle.mum_io.proofs.Common.{arith, length-drop, ◌∙◌, take_rest}
 use Rattle.mum_io.proofs.OutsideLemmas.{Appends-more}
 use Rattle.mum_io.proofs.whole.write_all.Goals as goal
 

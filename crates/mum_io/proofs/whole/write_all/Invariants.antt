@@ -1,5 +1,4 @@
-use Rattle.std.proofs.Common.{◌≡◌, length, take, ◌-◌, ◌≤◌}
-use Rattle.mum_io.specs.Outside.{Appends}
+use Rattle.mum_io.proofs.Common.{◌≡◌, length, take, ◌-◌, ◌≤◌, Appends}
 use Rattle.mum_io.proofs.whole.write_all.Given as goal
 
 abbrev pub invariant-loop-done : goal.invariant-loop-done

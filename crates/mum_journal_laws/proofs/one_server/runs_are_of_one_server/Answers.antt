@@ -9,4 +9,5 @@ returns g c state asked workers rows opened summary entries left run =
     (c.packets_go_by_the_decisions.ensures state asked workers rows opened summary entries left run)
     (c.totals_are_of_the_turns.ensures state asked workers rows opened summary entries left run)
     (c.entries_are_of_the_turns.ensures state asked workers rows opened summary entries left run)
+    (c.parcels_go_by_the_rules.ensures state asked workers rows opened summary entries left run)
     (c.journals_are_legal.ensures state asked workers rows opened summary entries left run)

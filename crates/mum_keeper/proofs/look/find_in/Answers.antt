@@ -1,6 +1,4 @@
-use Rattle.std.proofs.Common.{subst, sym}
-use Rattle.mum_kept.specs.declared.rows.KeptRows.{KeptRows}
-use Rattle.mum_keeper.specs.Changes.{AreInOrder}
+use Rattle.mum_keeper.proofs.Common.{subst, sym, KeptRows, AreInOrder}
 use Rattle.mum_keeper.proofs.Keptness.{kept_in_order}
 use Rattle.mum_keeper.proofs.look.find_in.Goals as goal
 

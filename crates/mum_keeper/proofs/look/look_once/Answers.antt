@@ -1,7 +1,5 @@
-use Rattle.std.proofs.Common.{subst, sym}
-use Rattle.mum_state.specs.State.{StateValue}
+use Rattle.mum_keeper.proofs.Common.{subst, sym, StateValue, MayShare}
 use Rattle.mum_keeper.proofs.Seeing.{may_share}
-use Rattle.mum_keeper.specs.Look.{MayShare}
 use Rattle.mum_keeper.proofs.look.look_once.Goals as goal
 
 pub look-requires : goal.look-requires

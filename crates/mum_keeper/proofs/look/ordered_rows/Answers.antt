@@ -1,7 +1,5 @@
+use Rattle.mum_keeper.proofs.Common.{subst, sym, KeptRows, AreInOrder}
 use Rattle.mum_keeper.proofs.Keptness.{kept_in_order}
-use Rattle.std.proofs.Common.{subst, sym}
-use Rattle.mum_kept.specs.declared.rows.KeptRows.{KeptRows}
-use Rattle.mum_keeper.specs.Changes.{AreInOrder}
 use Rattle.mum_keeper.proofs.look.ordered_rows.Goals as goal
 
 pub returns : goal.returns

@@ -1,6 +1,4 @@
-use Rattle.std.proofs.Common.{◌<◌, [], length, arith}
-use Rattle.std.specs.Option.{option_copied}
-use Rattle.mum_kept.proofs.Standing.{given_at}
+use Rattle.mum_keeper.proofs.Common.{◌<◌, [], length, arith, option_copied, given_at}
 use Rattle.mum_keeper.proofs.Walking.{come_next, next_within, walked_all}
 use Rattle.mum_keeper.proofs.merge.add_additions.Goals as goal
 

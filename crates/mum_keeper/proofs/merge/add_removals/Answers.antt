@@ -1,8 +1,5 @@
-use Rattle.std.proofs.Common.{◌<◌, [], length, arith}
-use Rattle.std.specs.Option.{option_copied}
-use Rattle.mum_kept.proofs.Standing.{given_at}
+use Rattle.mum_keeper.proofs.Common.{◌<◌, [], length, arith, option_copied, given_at, any_like}
 use Rattle.mum_keeper.proofs.Walking.{gone_next, next_within, walked_all}
-use Rattle.mum_keeper.specs.Order.{any_like}
 use Rattle.mum_keeper.proofs.merge.add_removals.Goals as goal
 
 pub loop-at-preserved : goal.loop-at-preserved

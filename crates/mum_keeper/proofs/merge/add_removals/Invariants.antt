@@ -1,5 +1,4 @@
-use Rattle.std.proofs.Common.{◌≡◌, ◌≤◌, ◌+◌, ◌-◌, ◌++◌, drop, length, map}
-use Rattle.mum_keeper.specs.Order.{any_like, unmatched}
+use Rattle.mum_keeper.proofs.Common.{◌≡◌, ◌≤◌, ◌+◌, ◌-◌, ◌++◌, drop, length, map, any_like, unmatched}
 use Rattle.mum_keeper.proofs.merge.add_removals.Given as goal
 
 abbrev pub invariant-loop-at : goal.invariant-loop-at

@@ -1,4 +1,4 @@
-use Rattle.std.proofs.Common.{◌∙◌}
+use Rattle.mum_keeper.proofs.Common.{◌∙◌}
 use Rattle.mum_keeper.proofs.Comparing.{brought, is_listed, is_unlisted, rested}
 use Rattle.mum_keeper.proofs.mirror.bring.Goals as goal
 

@@ -1,6 +1,4 @@
-use Rattle.std.proofs.Common.{◌∙◌, ◌++◌, List, [], ◌∷◌, ap, sym, take}
-use Rattle.std.proofs.lemmas.List.{take_more}
-use Rattle.mum_kept.specs.declared.rows.KeptChannel.{KeptChannel}
+use Rattle.mum_keeper.proofs.Common.{◌∙◌, ◌++◌, List, [], ◌∷◌, ap, sym, take, take_more, KeptChannel}
 use Rattle.mum_keeper.proofs.tables.copies_of.Goals as goal
 
 pub loop-channel-preserved : goal.loop-channel-preserved

@@ -1,4 +1,4 @@
-use Rattle.std.proofs.Common.{◌≡◌, take}
+use Rattle.mum_keeper.proofs.Common.{◌≡◌, take}
 use Rattle.mum_keeper.proofs.tables.copies_of.Given as goal
 
 abbrev pub invariant-loop-channel : goal.invariant-loop-channel

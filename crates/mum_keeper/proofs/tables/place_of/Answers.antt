@@ -1,4 +1,4 @@
-use Rattle.std.proofs.Common.{◌<◌, length, arith, sym, ◌∙◌}
+use Rattle.mum_keeper.proofs.Common.{◌<◌, length, arith, sym, ◌∙◌}
 use Rattle.mum_keeper.proofs.Walking.{place_here, place_more, place_past}
 use Rattle.mum_keeper.proofs.tables.place_of.Goals as goal
 

@@ -1,5 +1,4 @@
-use Rattle.std.proofs.Common.{◌≡◌, ◌≤◌, ◌+◌, ◌-◌, drop, length}
-use Rattle.mum_keeper.specs.Order.{place_of}
+use Rattle.mum_keeper.proofs.Common.{◌≡◌, ◌≤◌, ◌+◌, ◌-◌, drop, length, place_of}
 use Rattle.mum_keeper.proofs.tables.place_of.Given as goal
 
 abbrev pub invariant-loop-at : goal.invariant-loop-at

@@ -1,4 +1,4 @@
-use Rattle.std.proofs.Common.{◌∙◌, true, false, sym}
+use Rattle.mum_keeper.proofs.Common.{◌∙◌, true, false, sym}
 use Rattle.mum_keeper.proofs.Walking.{put_over}
 use Rattle.mum_keeper.proofs.tables.put_row.Goals as goal
 

@@ -1,4 +1,4 @@
-use Rattle.std.proofs.Common.{sym}
+use Rattle.mum_kept.proofs.Common.{sym}
 use Rattle.mum_kept.proofs.Payloads.{not_read, read}
 use Rattle.mum_kept.proofs.asked.message_in.Goals as goal
 

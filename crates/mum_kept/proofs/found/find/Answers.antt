@@ -1,6 +1,4 @@
-use Rattle.std.proofs.Common.{Some, ap, sym, ◌∙◌}
-use Rattle.mum_kept.specs.declared.rows.KeptChannel.{KeptChannel}
-use Rattle.mum_kept.specs.Rows.{tree_row}
+use Rattle.mum_kept.proofs.Common.{Some, ap, sym, ◌∙◌, KeptChannel, tree_row}
 use Rattle.mum_kept.proofs.found.find.Goals as goal
 
 pub returns-in-Some : goal.returns-in-Some

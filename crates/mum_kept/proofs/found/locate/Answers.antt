@@ -1,6 +1,4 @@
-use Rattle.std.proofs.Common.{rules}
-use Rattle.std.proofs.lemmas.List.Sorted.{answers_always}
-use Rattle.mum_kept.specs.declared.rows.KeptChannel.{KeptChannel}
+use Rattle.mum_kept.proofs.Common.{rules, answers_always, KeptChannel}
 use Rattle.mum_kept.proofs.Numbered.{located}
 use Rattle.mum_kept.proofs.found.locate.Goals as goal
 

@@ -1,6 +1,4 @@
-use Rattle.std.specs.Prelude.{IsTrue, ◌↔◌}
-use Rattle.std.proofs.lemmas.Result.{IfOk-weaker}
-use Rattle.mum_kept.specs.Good.{AreGoodChannels}
+use Rattle.mum_kept.proofs.Common.{IsTrue, ◌↔◌, IfOk-weaker, AreGoodChannels}
 use Rattle.mum_kept.proofs.Whole.{good_by_siblings, no_policies, not_shaped}
 use Rattle.mum_kept.proofs.good.are_good_channels.Goals as goal
 

@@ -1,6 +1,4 @@
-use Rattle.std.specs.Prelude.{IsTrue, ◌↔◌}
-use Rattle.std.proofs.lemmas.Result.{IfOk-weaker}
-use Rattle.mum_kept.specs.Good.{IsGood}
+use Rattle.mum_kept.proofs.Common.{IsTrue, ◌↔◌, IfOk-weaker, IsGood}
 use Rattle.mum_kept.proofs.Whole.{none_good, not_good, tree_good}
 use Rattle.mum_kept.proofs.good.good_rows.Goals as goal
 

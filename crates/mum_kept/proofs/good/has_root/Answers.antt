@@ -1,5 +1,4 @@
-use Rattle.std.proofs.Common.{sym}
-use Rattle.mum_kept.specs.Rows.{tree_rows}
+use Rattle.mum_kept.proofs.Common.{sym, tree_rows}
 use Rattle.mum_kept.proofs.Goodness.{no_root, root_is}
 use Rattle.mum_kept.proofs.good.has_root.Goals as goal
 

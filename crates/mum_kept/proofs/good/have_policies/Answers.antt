@@ -1,7 +1,5 @@
-use Rattle.std.proofs.Common.{ap, sym, ◌∙◌, arith}
+use Rattle.mum_kept.proofs.Common.{ap, sym, ◌∙◌, arith, has_policy, holds_policy}
 use Rattle.mum_kept.proofs.Goodness.{all_passed, more_pass, one_fails}
-use Rattle.mum_kept.specs.Good.{has_policy}
-use Rattle.mum_kept.specs.Policy.{holds_policy}
 use Rattle.mum_kept.proofs.good.have_policies.Goals as goal
 
 pub loop-channel-preserved : goal.loop-channel-preserved

@@ -1,6 +1,4 @@
-use Rattle.std.proofs.Common.{◌≡◌, true, take}
-use Rattle.std.specs.List.{list_all}
-use Rattle.mum_kept.specs.Good.{has_policy}
+use Rattle.mum_kept.proofs.Common.{◌≡◌, true, take, list_all, has_policy}
 use Rattle.mum_kept.proofs.good.have_policies.Given as goal
 
 abbrev pub invariant-loop-channel : goal.invariant-loop-channel

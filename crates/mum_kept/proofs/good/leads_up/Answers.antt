@@ -1,8 +1,4 @@
-use Rattle.std.proofs.Common.{◌≡◌, ◌-◌, ◌+◌, ℕ, ap, sym, ◌∙◌, arith}
-use Rattle.mum_base.specs.Channels.{is_among}
-use Rattle.mum_base.specs.declared.number.TheConstants.ChannelId.{ROOT}
-use Rattle.mum_tree.specs.Rows.{upward}
-use Rattle.mum_kept.specs.Rows.{tree_row, tree_rows}
+use Rattle.mum_kept.proofs.Common.{◌≡◌, ◌-◌, ◌+◌, ℕ, ap, sym, ◌∙◌, arith, is_among, ROOT, upward, tree_row, tree_rows}
 use Rattle.mum_kept.proofs.Goodness.{leads_none, leads_on, leads_root, leads_zero}
 use Rattle.mum_kept.proofs.good.leads_up.Goals as goal
 

@@ -1,6 +1,4 @@
-use Rattle.std.proofs.Common.{ltb, rules}
-use Rattle.std.proofs.lemmas.List.Sorted.{answers_always}
-use Rattle.mum_kept.specs.declared.rows.KeptChannel.{KeptChannel}
+use Rattle.mum_kept.proofs.Common.{ltb, rules, answers_always, KeptChannel}
 use Rattle.mum_kept.proofs.Goodness.{risen}
 use Rattle.mum_kept.proofs.good.rise.Goals as goal
 

@@ -1,5 +1,4 @@
-use Rattle.std.proofs.Common.{sym, ◌∙◌, arith}
-use Rattle.std.proofs.lemmas.Bool.{false≢true}
+use Rattle.mum_kept.proofs.Common.{sym, ◌∙◌, arith, false≢true}
 use Rattle.mum_kept.proofs.Degrees.{counted_at, few_all, few_at, few_not_at}
 use Rattle.mum_kept.proofs.joined.are_few_each.Goals as goal
 

@@ -1,4 +1,4 @@
-use Rattle.std.proofs.Common.{take}
+use Rattle.mum_kept.proofs.Common.{take}
 use Rattle.mum_kept.proofs.Degrees.{AreCounted, AreFew}
 use Rattle.mum_kept.proofs.joined.are_few_each.Given as goal
 

@@ -1,9 +1,5 @@
-use Rattle.std.specs.Prelude.{IsTrue, ◌↔◌}
-use Rattle.std.proofs.lemmas.Result.{IfOk-weaker}
-use Rattle.mum_kept.specs.Good.{AreGoodLinks}
-use Rattle.mum_kept.specs.Rows.{tree_rows}
-use Rattle.mum_kept.proofs.Degrees.{all_join}
-use Rattle.mum_kept.proofs.Whole.{links_good, not_joined, not_ordered}
+use Rattle.mum_kept.proofs.Common.{IsTrue, ◌↔◌, IfOk-weaker, AreGoodLinks, tree_rows}
+use Rattle.mum_kept.proofs.{Degrees.all_join, Whole.links_good, Whole.not_joined, Whole.not_ordered}
 use Rattle.mum_kept.proofs.joined.are_good_links.Goals as goal
 
 pub are_few_each-requires : goal.are_few_each-requires

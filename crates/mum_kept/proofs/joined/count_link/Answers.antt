@@ -1,7 +1,4 @@
-use Rattle.std.proofs.Common.{◌≡◌, ◌+◌, ◌<◌, ℕ, cond}
-use Rattle.std.specs.Prelude.{IsTrue, ◌↔◌}
-use Rattle.std.proofs.lemmas.Result.{IfOk-weaker}
-use Rattle.mum_kept.specs.Good.{count_at, is_end}
+use Rattle.mum_kept.proofs.Common.{◌≡◌, ◌+◌, ◌<◌, ℕ, cond, IsTrue, ◌↔◌, IfOk-weaker, count_at, is_end}
 use Rattle.mum_kept.proofs.Degrees.{count_apart, counted_both, few_first, few_two}
 use Rattle.mum_kept.proofs.joined.count_link.Goals as goal
 

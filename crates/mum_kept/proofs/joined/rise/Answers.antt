@@ -1,6 +1,4 @@
-use Rattle.std.proofs.Common.{rules}
-use Rattle.std.proofs.lemmas.List.Sorted.{answers_always}
-use Rattle.mum_tree.specs.State.{Pair, is_above}
+use Rattle.mum_kept.proofs.Common.{rules, answers_always, Pair, is_above}
 use Rattle.mum_kept.proofs.Degrees.{ordered}
 use Rattle.mum_kept.proofs.joined.rise.Goals as goal
 

@@ -1,10 +1,6 @@
-use Rattle.std.proofs.Common.{◌∙◌, ◌++◌, List, ap, sym, arith}
-use Rattle.std.proofs.lemmas.List.{take_all}
-use Rattle.mum_base.specs.declared.number.ChannelId.{ChannelId}
-use Rattle.mum_kept.specs.Kept.{is_kept_link}
-use Rattle.mum_kept.proofs.Lasting.{kept_from, link_dropped_at, link_kept_at}
+use Rattle.mum_kept.proofs.Common.{◌∙◌, ◌++◌, List, ap, sym, arith, take_all, ChannelId, is_kept_link}
+use Rattle.mum_kept.proofs.{Lasting.kept_from, Lasting.link_dropped_at, Lasting.link_kept_at, kept.add_links.Goals.then-is_kept_link+in_ok-push, kept.add_links.Goals.else-is_kept_link}
 use Rattle.mum_kept.proofs.kept.add_links.Goals as goal
-use Rattle.mum_kept.proofs.kept.add_links.Goals.{then-is_kept_link+in_ok-push, else-is_kept_link}
 
 pub loop-other-preserved : goal.loop-other-preserved
 loop-other-preserved c =

@@ -1,6 +1,4 @@
-use Rattle.std.proofs.Common.{◌≡◌, ◌++◌, map, take}
-use Rattle.std.specs.List.{filter}
-use Rattle.mum_kept.specs.Kept.{is_kept_link}
+use Rattle.mum_kept.proofs.Common.{◌≡◌, ◌++◌, map, take, filter, is_kept_link}
 use Rattle.mum_kept.proofs.kept.add_links.Given as goal
 
 abbrev pub invariant-loop-other : goal.invariant-loop-other

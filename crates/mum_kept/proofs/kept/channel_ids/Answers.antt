@@ -1,9 +1,4 @@
-use Rattle.std.proofs.Common.{◌≡◌, ◌∙◌, Some, sym, arith}
-use Rattle.std.specs.Prelude.{slice_get}
-use Rattle.std.proofs.lemmas.Option.{slice_get-map}
-use Rattle.mum_tree.specs.declared.channel.Row.{Row}
-use Rattle.mum_notify.specs.Channels.{channel_ids}
-use Rattle.mum_notify.proofs.Pieces.{next_front, whole_front}
+use Rattle.mum_kept.proofs.Common.{◌≡◌, ◌∙◌, Some, sym, arith, slice_get, slice_get-map, Row, channel_ids, next_front, whole_front}
 use Rattle.mum_kept.proofs.kept.channel_ids.Goals as goal
 
 pub loop-id-preserved : goal.loop-id-preserved

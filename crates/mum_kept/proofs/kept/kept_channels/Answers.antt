@@ -1,10 +1,5 @@
-use Rattle.std.proofs.Common.{◌∙◌, List, ap, arith}
-use Rattle.std.specs.List.{flat_map}
-use Rattle.std.proofs.lemmas.List.{take_all}
-use Rattle.mum_base.specs.declared.number.ChannelId.{ChannelId}
-use Rattle.mum_kept.specs.Kept.{kept_of}
-use Rattle.mum_kept.proofs.Lasting.{kept_by_id, pieces_at}
-use Rattle.mum_kept.proofs.Standing.{one_has}
+use Rattle.mum_kept.proofs.Common.{◌∙◌, List, ap, arith, flat_map, take_all, ChannelId, kept_of}
+use Rattle.mum_kept.proofs.{Lasting.kept_by_id, Lasting.pieces_at, Standing.one_has}
 use Rattle.mum_kept.proofs.kept.kept_channels.Goals as goal
 
 pub add_channel-requires : goal.add_channel-requires

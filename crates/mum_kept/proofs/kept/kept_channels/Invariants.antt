@@ -1,6 +1,4 @@
-use Rattle.std.proofs.Common.{◌≡◌, take}
-use Rattle.std.specs.List.{flat_map}
-use Rattle.mum_kept.specs.Kept.{kept_of}
+use Rattle.mum_kept.proofs.Common.{◌≡◌, take, flat_map, kept_of}
 use Rattle.mum_kept.proofs.kept.kept_channels.Given as goal
 
 abbrev pub invariant-loop-id : goal.invariant-loop-id

@@ -1,8 +1,4 @@
-use Rattle.std.proofs.Common.{◌∙◌, List, ap, arith}
-use Rattle.std.specs.List.{filter, flat_map}
-use Rattle.std.proofs.lemmas.List.{take_all}
-use Rattle.mum_base.specs.declared.number.ChannelId.{ChannelId}
-use Rattle.mum_kept.specs.Kept.{is_kept_link, links_from}
+use Rattle.mum_kept.proofs.Common.{◌∙◌, List, ap, arith, filter, flat_map, take_all, ChannelId, is_kept_link, links_from}
 use Rattle.mum_kept.proofs.Lasting.{links_by_id, pieces_at}
 use Rattle.mum_kept.proofs.kept.kept_links.Goals as goal
 

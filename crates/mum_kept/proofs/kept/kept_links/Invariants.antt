@@ -1,6 +1,4 @@
-use Rattle.std.proofs.Common.{◌≡◌, take}
-use Rattle.std.specs.List.{filter, flat_map}
-use Rattle.mum_kept.specs.Kept.{is_kept_link, links_from}
+use Rattle.mum_kept.proofs.Common.{◌≡◌, take, filter, flat_map, is_kept_link, links_from}
 use Rattle.mum_kept.proofs.kept.kept_links.Given as goal
 
 abbrev pub invariant-loop-id : goal.invariant-loop-id

@@ -1,6 +1,4 @@
-use Rattle.std.proofs.Common.{sym, arith}
-use Rattle.mum_tree.specs.State.{partners}
-use Rattle.mum_notify.proofs.Pieces.{next_front, whole_front}
+use Rattle.mum_kept.proofs.Common.{sym, arith, partners, next_front, whole_front}
 use Rattle.mum_kept.proofs.kept.partners.Goals as goal
 
 pub loop-partner-preserved : goal.loop-partner-preserved

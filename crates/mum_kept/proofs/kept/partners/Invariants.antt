@@ -1,5 +1,4 @@
-use Rattle.std.proofs.Common.{◌≡◌, ◌-◌, ◌≤◌, length, take}
-use Rattle.mum_tree.specs.State.{partners}
+use Rattle.mum_kept.proofs.Common.{◌≡◌, ◌-◌, ◌≤◌, length, take, partners}
 use Rattle.mum_kept.proofs.kept.partners.Given as goal
 
 abbrev pub invariant-loop-partner : goal.invariant-loop-partner

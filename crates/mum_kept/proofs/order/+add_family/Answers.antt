@@ -1,9 +1,4 @@
-use Rattle.std.proofs.Common.{◌-◌, [], ◌∷◌, ◌++◌, List, ap, ◌∙◌, arith}
-use Rattle.std.specs.List.{flat_map}
-use Rattle.std.proofs.lemmas.List.{take_all}
-use Rattle.mum_tree.specs.State.{Pair}
-use Rattle.mum_notify.specs.Channels.{family}
-use Rattle.mum_notify.proofs.ByParent.{no_levels}
+use Rattle.mum_kept.proofs.Common.{◌-◌, [], ◌∷◌, ◌++◌, List, ap, ◌∙◌, arith, flat_map, take_all, Pair, family, no_levels}
 use Rattle.mum_kept.proofs.ByParents.{family_told, kids_in}
 use Rattle.mum_kept.proofs.order.+add_family.Goals as goal
 

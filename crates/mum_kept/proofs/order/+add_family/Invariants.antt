@@ -1,7 +1,4 @@
-use Rattle.std.proofs.Common.{◌≡◌, ◌-◌, ◌<◌, [], ◌∷◌, ◌++◌, filter, take}
-use Rattle.std.specs.List.{flat_map}
-use Rattle.mum_tree.specs.State.{Pair, ends_from, starts_at}
-use Rattle.mum_notify.specs.Channels.{family}
+use Rattle.mum_kept.proofs.Common.{◌≡◌, ◌-◌, ◌<◌, [], ◌∷◌, ◌++◌, filter, take, flat_map, Pair, ends_from, starts_at, family}
 use Rattle.mum_kept.proofs.order.+add_family.Given as goal
 
 abbrev pub invariant-loop-child : goal.invariant-loop-child

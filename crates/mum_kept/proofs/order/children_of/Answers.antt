@@ -1,10 +1,6 @@
-use Rattle.std.proofs.Common.{Bool, not, ap, sym, ◌∙◌, []}
-use Rattle.mum_tree.specs.State.{Pair}
-use Rattle.mum_notify.proofs.Pieces.{dropped_more, kept_more}
-use Rattle.mum_kept.specs.declared.rows.KeptChannel.{KeptChannel}
-use Rattle.mum_kept.specs.Rows.{is_top}
-use Rattle.mum_kept.proofs.order.children_of.Goals as goal
+use Rattle.mum_kept.proofs.Common.{Bool, not, ap, sym, ◌∙◌, [], Pair, dropped_more, kept_more, KeptChannel, is_top}
 use Rattle.mum_kept.proofs.order.children_of.Goals.{then-not-is_root+in_ok-push, else-not-is_root}
+use Rattle.mum_kept.proofs.order.children_of.Goals as goal
 
 pub loop-channel-preserved : goal.loop-channel-preserved
 loop-channel-preserved c =

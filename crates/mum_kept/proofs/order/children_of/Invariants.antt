@@ -1,5 +1,4 @@
-use Rattle.std.proofs.Common.{◌≡◌, take}
-use Rattle.mum_kept.specs.Rows.{children_of}
+use Rattle.mum_kept.proofs.Common.{◌≡◌, take, children_of}
 use Rattle.mum_kept.proofs.order.children_of.Given as goal
 
 abbrev pub invariant-loop-channel : goal.invariant-loop-channel

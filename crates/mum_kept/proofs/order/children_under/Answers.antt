@@ -1,9 +1,4 @@
-use Rattle.std.proofs.Common.{◌≡◌, ◌-◌, length, drop, take, sym, subst, List, rules, arith}
-use Rattle.std.specs.List.Sorted.{IsPartitionedBy}
-use Rattle.std.proofs.lemmas.List.{length-drop, take_all}
-use Rattle.std.proofs.lemmas.List.Sorted.{IsPartitionPoint-from_clause}
-use Rattle.mum_tree.specs.State.{Pair, starts_at}
-use Rattle.mum_tree.proofs.LinkSearch.{own_front}
+use Rattle.mum_kept.proofs.Common.{◌≡◌, ◌-◌, length, drop, take, sym, subst, List, rules, arith, IsPartitionedBy, length-drop, take_all, IsPartitionPoint-from_clause, Pair, starts_at, own_front}
 use Rattle.mum_kept.proofs.ByParents.{own_parted}
 use Rattle.mum_kept.proofs.order.children_under.Goals as goal
 

@@ -1,7 +1,4 @@
-use Rattle.std.proofs.Common.{ltb, arith, rules}
-use Rattle.std.proofs.lemmas.Bool.{ltb-false, ltb-true}
-use Rattle.std.proofs.lemmas.List.Sorted.{IsPartitionPoint-from_clause}
-use Rattle.mum_tree.specs.State.{Pair}
+use Rattle.mum_kept.proofs.Common.{ltb, arith, rules, ltb-false, ltb-true, IsPartitionPoint-from_clause, Pair}
 use Rattle.mum_kept.proofs.ByParents.{starts_parted}
 use Rattle.mum_kept.proofs.order.first_under.Goals as goal
 

@@ -1,6 +1,4 @@
-use Rattle.std.proofs.Common.{rules}
-use Rattle.std.proofs.lemmas.List.Sorted.{IsNonDecreasingBy-from_sort_by_key, answers_always}
-use Rattle.mum_tree.specs.State.{Pair}
+use Rattle.mum_kept.proofs.Common.{rules, IsNonDecreasingBy-from_sort_by_key, answers_always, Pair}
 use Rattle.mum_kept.proofs.ByParents.{children_are_sorted}
 use Rattle.mum_kept.proofs.order.sorted_children.Goals as goal
 

@@ -1,6 +1,4 @@
-use Rattle.mum_base.specs.declared.number.TheConstants.ChannelId.{ROOT}
-use Rattle.mum_tree.specs.declared.channel.TheConstants.{PATH_LIMIT}
-use Rattle.mum_kept.specs.Rows.{tree_of}
+use Rattle.mum_kept.proofs.Common.{ROOT, PATH_LIMIT, tree_of}
 use Rattle.mum_kept.proofs.ByParents.{order_told}
 use Rattle.mum_kept.proofs.order.tree_order.Goals as goal
 

@@ -1,4 +1,4 @@
-use Rattle.std.proofs.Common.{◌≡◌, ℕ, ◌<◌, true, false, get_or}
+use Rattle.mum_kept.proofs.Common.{◌≡◌, ℕ, ◌<◌, true, false, get_or}
 use Rattle.mum_kept.proofs.prefix.first_false.Given as goal
 
 abbrev pub invariant-loop-at : goal.invariant-loop-at

@@ -1,5 +1,4 @@
-use Rattle.std.proofs.Common.{Bool, List, false, get_or, ap, ◌∙◌, rules}
-use Rattle.mum_state.proofs.Marking.{none_marked}
+use Rattle.mum_kept.proofs.Common.{Bool, List, false, get_or, ap, ◌∙◌, rules, none_marked}
 use Rattle.mum_kept.proofs.prefix.free_number.Goals as goal
 
 pub first_unused-requires-clause-none : goal.first_unused-requires-clause-none

@@ -1,8 +1,4 @@
-use Rattle.std.proofs.Common.{◌≡◌, ◌<◌, ◌==◌, ℕ, false, true, List, length, get_or, length-set, ap, subst, ◌∙◌, arith}
-use Rattle.std.specs.List.{list_any}
-use Rattle.std.proofs.lemmas.List.{take_all}
-use Rattle.mum_kept.specs.declared.rows.KeptChannel.{KeptChannel}
-use Rattle.mum_kept.specs.Prefix.{prefix_number}
+use Rattle.mum_kept.proofs.Common.{◌≡◌, ◌<◌, ◌==◌, ℕ, false, true, List, length, get_or, length-set, ap, subst, ◌∙◌, arith, list_any, take_all, KeptChannel, prefix_number}
 use Rattle.mum_kept.proofs.Unused.{marked_more}
 use Rattle.mum_kept.proofs.prefix.mark_prefixes.Goals as goal
 

@@ -1,6 +1,4 @@
-use Rattle.std.proofs.Common.{◌≡◌, ℕ, ◌==◌, false, length, take, get_or}
-use Rattle.std.specs.List.{list_any}
-use Rattle.mum_kept.specs.Prefix.{prefix_number}
+use Rattle.mum_kept.proofs.Common.{◌≡◌, ℕ, ◌==◌, false, length, take, get_or, list_any, prefix_number}
 use Rattle.mum_kept.proofs.prefix.mark_prefixes.Given as goal
 
 abbrev pub invariant-loop-channel : goal.invariant-loop-channel

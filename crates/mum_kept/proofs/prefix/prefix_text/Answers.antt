@@ -1,5 +1,4 @@
-use Rattle.std.proofs.Common.{rules}
-use Rattle.mum_kept.specs.Prefix.{prefix}
+use Rattle.mum_kept.proofs.Common.{rules, prefix}
 use Rattle.mum_kept.proofs.prefix.prefix_text.Goals as goal
 
 pub returns : goal.returns

@@ -1,9 +1,6 @@
-use Rattle.std.proofs.Common.{sym, ◌∙◌}
-use Rattle.mum_notify.proofs.Pieces.{dropped_more, kept_more}
-use Rattle.mum_kept.specs.declared.rows.KeptChannel.{KeptChannel}
-use Rattle.mum_kept.specs.Rebuild.{describes_root, info_edit}
-use Rattle.mum_kept.proofs.rebuilt.push_infos.Goals as goal
+use Rattle.mum_kept.proofs.Common.{sym, ◌∙◌, dropped_more, kept_more, KeptChannel, describes_root, info_edit}
 use Rattle.mum_kept.proofs.rebuilt.push_infos.Goals.{then-describes_root+in_ok-push_info, else-describes_root}
+use Rattle.mum_kept.proofs.rebuilt.push_infos.Goals as goal
 
 pub loop-channel-preserved : goal.loop-channel-preserved
 loop-channel-preserved c =

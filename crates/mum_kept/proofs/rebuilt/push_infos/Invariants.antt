@@ -1,5 +1,4 @@
-use Rattle.std.proofs.Common.{◌≡◌, ◌++◌, take}
-use Rattle.mum_kept.specs.Rebuild.{info_edits}
+use Rattle.mum_kept.proofs.Common.{◌≡◌, ◌++◌, take, info_edits}
 use Rattle.mum_kept.proofs.rebuilt.push_infos.Given as goal
 
 abbrev pub invariant-loop-channel : goal.invariant-loop-channel

@@ -1,5 +1,4 @@
-use Rattle.std.proofs.Common.{◌≡◌, ◌++◌, map, take}
-use Rattle.mum_kept.specs.Rebuild.{link_edit}
+use Rattle.mum_kept.proofs.Common.{◌≡◌, ◌++◌, map, take, link_edit}
 use Rattle.mum_kept.proofs.rebuilt.push_links.Given as goal
 
 abbrev pub invariant-loop-link : goal.invariant-loop-link

@@ -1,10 +1,6 @@
-use Rattle.std.proofs.Common.{Bool, not, ap, sym, ◌∙◌}
-use Rattle.mum_notify.proofs.Pieces.{dropped_more, kept_more}
-use Rattle.mum_kept.specs.declared.rows.KeptChannel.{KeptChannel}
-use Rattle.mum_kept.specs.Rebuild.{make_edit}
-use Rattle.mum_kept.specs.Rows.{is_top}
-use Rattle.mum_kept.proofs.rebuilt.push_makes.Goals as goal
+use Rattle.mum_kept.proofs.Common.{Bool, not, ap, sym, ◌∙◌, dropped_more, kept_more, KeptChannel, make_edit, is_top}
 use Rattle.mum_kept.proofs.rebuilt.push_makes.Goals.{then-not-is_root+in_ok-push_make, else-not-is_root}
+use Rattle.mum_kept.proofs.rebuilt.push_makes.Goals as goal
 
 pub loop-channel-preserved : goal.loop-channel-preserved
 loop-channel-preserved c =

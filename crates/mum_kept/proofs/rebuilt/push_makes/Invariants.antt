@@ -1,6 +1,4 @@
-use Rattle.std.proofs.Common.{◌≡◌, ◌++◌, map, take}
-use Rattle.mum_kept.specs.Rebuild.{make_edit}
-use Rattle.mum_kept.specs.Rows.{below_root}
+use Rattle.mum_kept.proofs.Common.{◌≡◌, ◌++◌, map, take, make_edit, below_root}
 use Rattle.mum_kept.proofs.rebuilt.push_makes.Given as goal
 
 abbrev pub invariant-loop-channel : goal.invariant-loop-channel

@@ -1,12 +1,6 @@
-use Rattle.std.proofs.Common.{◌++◌, Bool, List, map, filter, not, ap, sym, ◌∙◌, arith}
-use Rattle.std.proofs.lemmas.List.{take_all}
-use Rattle.mum_base.specs.declared.number.ChannelId.{ChannelId}
-use Rattle.mum_tree.specs.Rows.{is_root}
-use Rattle.mum_kept.specs.Rebuild.{place_edit}
-use Rattle.mum_kept.specs.Rows.{tree_of}
-use Rattle.mum_kept.proofs.Pushed.{dropped_at, kept_at}
+use Rattle.mum_kept.proofs.Common.{◌++◌, Bool, List, map, filter, not, ap, sym, ◌∙◌, arith, take_all, ChannelId, is_root, place_edit, tree_of}
+use Rattle.mum_kept.proofs.{Pushed.dropped_at, Pushed.kept_at, rebuilt.push_places.Goals.then-not-is_root+in_ok-push_place, rebuilt.push_places.Goals.else-not-is_root}
 use Rattle.mum_kept.proofs.rebuilt.push_places.Goals as goal
-use Rattle.mum_kept.proofs.rebuilt.push_places.Goals.{then-not-is_root+in_ok-push_place, else-not-is_root}
 
 pub loop-id-preserved : goal.loop-id-preserved
 loop-id-preserved c =

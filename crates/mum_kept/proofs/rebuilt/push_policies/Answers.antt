@@ -1,8 +1,4 @@
-use Rattle.std.proofs.Common.{◌++◌, List, map, ap, ◌∙◌, arith}
-use Rattle.std.proofs.lemmas.List.{take_all}
-use Rattle.mum_notify.proofs.Pieces.{mapped_more}
-use Rattle.mum_kept.specs.declared.rows.KeptChannel.{KeptChannel}
-use Rattle.mum_kept.specs.Rebuild.{policy_edit}
+use Rattle.mum_kept.proofs.Common.{◌++◌, List, map, ap, ◌∙◌, arith, take_all, mapped_more, KeptChannel, policy_edit}
 use Rattle.mum_kept.proofs.rebuilt.push_policies.Goals as goal
 
 pub loop-channel-preserved : goal.loop-channel-preserved

@@ -1,5 +1,4 @@
-use Rattle.std.proofs.Common.{◌≡◌, ◌++◌, map, take}
-use Rattle.mum_kept.specs.Rebuild.{policy_edit}
+use Rattle.mum_kept.proofs.Common.{◌≡◌, ◌++◌, map, take, policy_edit}
 use Rattle.mum_kept.proofs.rebuilt.push_policies.Given as goal
 
 abbrev pub invariant-loop-channel : goal.invariant-loop-channel

@@ -1,4 +1,4 @@
-use Rattle.std.proofs.Common.{sym, ◌∙◌, arith}
+use Rattle.mum_kept.proofs.Common.{sym, ◌∙◌, arith}
 use Rattle.mum_kept.proofs.Seats.{apart_all, seat_kept, seat_lost}
 use Rattle.mum_kept.proofs.siblings.are_apart.Goals as goal
 

@@ -1,4 +1,4 @@
-use Rattle.std.proofs.Common.{take}
+use Rattle.mum_kept.proofs.Common.{take}
 use Rattle.mum_kept.proofs.Seats.{ApartBefore, KeptSeats}
 use Rattle.mum_kept.proofs.siblings.are_apart.Given as goal
 

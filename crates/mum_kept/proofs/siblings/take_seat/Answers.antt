@@ -1,6 +1,4 @@
-use Rattle.std.proofs.Common.{◌||◌, Bool, not, refl, ap, sym, ◌∙◌}
-use Rattle.std.specs.List.{list_any}
-use Rattle.mum_kept.specs.Good.{is_seat, seat_of, seats_of}
+use Rattle.mum_kept.proofs.Common.{◌||◌, Bool, not, refl, ap, sym, ◌∙◌, list_any, is_seat, seat_of, seats_of}
 use Rattle.mum_kept.proofs.Seats.{same_keys, seats_added}
 use Rattle.mum_kept.proofs.siblings.take_seat.Goals as goal
 

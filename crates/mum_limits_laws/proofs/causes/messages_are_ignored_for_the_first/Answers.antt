@@ -1,5 +1,4 @@
-use Rattle.mum_limits_laws.proofs.HeardLaws.{tree_messages_lem}
-use Rattle.mum_limits_laws.proofs.HeardUserLaws.{user_messages_lem}
+use Rattle.mum_limits_laws.proofs.{HeardLaws.tree_messages_lem, HeardUserLaws.user_messages_lem}
 use Rattle.mum_limits_laws.proofs.causes.messages_are_ignored_for_the_first.Goals as goal
 
 pub returns-clause-channels : goal.returns-clause-channels

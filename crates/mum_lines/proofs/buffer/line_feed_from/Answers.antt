@@ -1,6 +1,4 @@
-use Rattle.std.proofs.Common.{ℕ, ◌≡◌, ◌-◌, ◌∙◌, List, length, take, drop, sym, ap, arith, length-drop, take_all}
-use Rattle.std.specs.Prelude.{position}
-use Rattle.mum_record.specs.Lines.{is_line_feed}
+use Rattle.mum_lines.proofs.Common.{ℕ, ◌≡◌, ◌-◌, ◌∙◌, List, length, take, drop, sym, ap, arith, length-drop, take_all, position, is_line_feed}
 use Rattle.mum_lines.proofs.LineFeeds.{found-behind, none-behind}
 use Rattle.mum_lines.proofs.buffer.line_feed_from.Goals as goal
 

@@ -1,5 +1,4 @@
-use Rattle.std.proofs.Common.{◌∙◌, ◌++◌, List, ℕ, sym, ap, true≢false}
-use Rattle.mum_lines.specs.Seeking.{kept_in}
+use Rattle.mum_lines.proofs.Common.{◌∙◌, ◌++◌, List, ℕ, sym, ap, true≢false, kept_in}
 use Rattle.mum_lines.proofs.Readers.{at_end_kept, opened, reads_more, reads_none, still_found}
 use Rattle.mum_lines.proofs.reader.seek.Goals as goal
 

@@ -1,7 +1,4 @@
-use Rattle.std.proofs.Common.{◌≡◌, ◌-◌, ◌<◌, length}
-use Rattle.mum_lines.specs.Lines.{line_length}
-use Rattle.mum_lines.specs.Seeking.{ReadOn, kept_in}
-use Rattle.mum_lines.specs.declared.buffer.TheConstants.{BUFFER_LENGTH}
+use Rattle.mum_lines.proofs.Common.{◌≡◌, ◌-◌, ◌<◌, length, line_length, ReadOn, kept_in, BUFFER_LENGTH}
 use Rattle.mum_lines.proofs.reader.seek.Given as goal
 
 abbrev pub invariant-reads : goal.invariant-reads

@@ -1,5 +1,4 @@
-use Rattle.mum_crew.specs.Deal.{thread_at}
-use Rattle.mum_link.specs.Sharing.{worker_of}
+use Rattle.mum_link.proofs.Common.{thread_at, worker_of}
 use Rattle.mum_link.proofs.Dealing.{in_its_lane}
 use Rattle.mum_link.proofs.laws.links_are_where_their_workers_are.Goals as goal
 

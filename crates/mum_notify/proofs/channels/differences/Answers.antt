@@ -1,6 +1,4 @@
-use Rattle.std.proofs.Common.{[]}
-use Rattle.mum_notify.specs.Channels.{channel_difference}
-use Rattle.mum_notify.specs.Parcels.{channel_frame}
+use Rattle.mum_notify.proofs.Common.{[], channel_difference, channel_frame}
 use Rattle.mum_notify.proofs.Pieces.{told_at}
 use Rattle.mum_notify.proofs.channels.differences.Goals as goal
 

@@ -1,7 +1,4 @@
-use Rattle.std.proofs.Common.{◌≡◌, subst, sym}
-use Rattle.std.specs.Result.{IfOk}
-use Rattle.mum_msg_state.specs.declared.channel_state.ChannelState.{ChannelState}
-use Rattle.mum_notify.specs.Parcels.{IsWithinFrame, channel_frame, channel_payload}
+use Rattle.mum_notify.proofs.Common.{◌≡◌, subst, sym, IfOk, ChannelState, IsWithinFrame, channel_frame, channel_payload}
 use Rattle.mum_notify.proofs.channels.frame_of_channel.Goals as goal
 
 pub channel_frame-requires : goal.channel_frame-requires

@@ -1,5 +1,4 @@
-use Rattle.std.proofs.Common.{refl}
-use Rattle.mum_notify.specs.Channels.{channel_told}
+use Rattle.mum_notify.proofs.Common.{refl, channel_told}
 use Rattle.mum_notify.proofs.Within.{new_channel_fits}
 use Rattle.mum_notify.proofs.channels.new_channel_frames.Goals as goal
 

@@ -1,5 +1,4 @@
-use Rattle.std.proofs.Common.{[]}
-use Rattle.mum_base.specs.declared.number.ChannelId.{ChannelId}
+use Rattle.mum_notify.proofs.Common.{[], ChannelId}
 use Rattle.mum_notify.proofs.Pieces.{mapped_at}
 use Rattle.mum_notify.proofs.channels.numbers.Goals as goal
 

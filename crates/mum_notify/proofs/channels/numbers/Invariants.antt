@@ -1,5 +1,4 @@
-use Rattle.std.proofs.Common.{◌≡◌, take}
-use Rattle.mum_notify.specs.Channels.{numbers}
+use Rattle.mum_notify.proofs.Common.{◌≡◌, take, numbers}
 use Rattle.mum_notify.proofs.channels.numbers.Given as goal
 
 abbrev pub invariant-loop-id : goal.invariant-loop-id

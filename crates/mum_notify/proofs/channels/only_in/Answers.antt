@@ -1,9 +1,6 @@
-use Rattle.std.proofs.Common.{◌∙◌, Bool, not, ap, sym}
-use Rattle.mum_base.specs.Channels.{is_among}
-use Rattle.mum_base.specs.declared.number.ChannelId.{ChannelId}
-use Rattle.mum_notify.proofs.Pieces.{passed_at, skipped_at}
+use Rattle.mum_notify.proofs.Common.{◌∙◌, Bool, not, ap, sym, is_among, ChannelId}
+use Rattle.mum_notify.proofs.{Pieces.passed_at, Pieces.skipped_at, channels.only_in.Goals.then-not-contains+in_ok-push, channels.only_in.Goals.else-not-contains}
 use Rattle.mum_notify.proofs.channels.only_in.Goals as goal
-use Rattle.mum_notify.proofs.channels.only_in.Goals.{then-not-contains+in_ok-push, else-not-contains}
 
 pub loop-id-preserved : goal.loop-id-preserved
 loop-id-preserved c =

@@ -1,6 +1,4 @@
-use Rattle.std.proofs.Common.{◌≡◌, filter, not, take}
-use Rattle.mum_base.specs.Channels.{is_among}
-use Rattle.mum_notify.specs.Channels.{numbers}
+use Rattle.mum_notify.proofs.Common.{◌≡◌, filter, not, take, is_among, numbers}
 use Rattle.mum_notify.proofs.channels.only_in.Given as goal
 
 abbrev pub invariant-loop-id : goal.invariant-loop-id

@@ -1,5 +1,4 @@
-use Rattle.std.proofs.Common.{sym, arith}
-use Rattle.mum_tree.specs.State.{partners}
+use Rattle.mum_notify.proofs.Common.{sym, arith, partners}
 use Rattle.mum_notify.proofs.Pieces.{next_front, whole_front}
 use Rattle.mum_notify.proofs.channels.partners.Goals as goal
 

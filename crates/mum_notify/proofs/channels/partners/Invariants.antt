@@ -1,5 +1,4 @@
-use Rattle.std.proofs.Common.{◌≡◌, ◌-◌, ◌≤◌, length, take}
-use Rattle.mum_tree.specs.State.{partners}
+use Rattle.mum_notify.proofs.Common.{◌≡◌, ◌-◌, ◌≤◌, length, take, partners}
 use Rattle.mum_notify.proofs.channels.partners.Given as goal
 
 abbrev pub invariant-loop-partner : goal.invariant-loop-partner

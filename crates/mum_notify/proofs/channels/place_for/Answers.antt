@@ -1,7 +1,4 @@
-use Rattle.std.proofs.Common.{rules}
-use Rattle.std.proofs.lemmas.List.Sorted.{IsPartitionPoint-from_clause}
-use Rattle.mum_users.proofs.Search.{parted, place_between}
-use Rattle.mum_notify.specs.Channels.{is_lower}
+use Rattle.mum_notify.proofs.Common.{rules, IsPartitionPoint-from_clause, parted, place_between, is_lower}
 use Rattle.mum_notify.proofs.Placed.{lower_down}
 use Rattle.mum_notify.proofs.channels.place_for.Goals as goal
 

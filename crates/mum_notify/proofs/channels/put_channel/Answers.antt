@@ -1,7 +1,4 @@
-use Rattle.std.proofs.Common.{List, subst, sym}
-use Rattle.mum_base.specs.declared.number.ChannelId.{ChannelId}
-use Rattle.mum_users.specs.Order.{Rises}
-use Rattle.mum_notify.specs.Channels.{is_lower}
+use Rattle.mum_notify.proofs.Common.{List, subst, sym, ChannelId, Rises, is_lower}
 use Rattle.mum_notify.proofs.Placed.{put_in, put_there, rises_with}
 use Rattle.mum_notify.proofs.channels.put_channel.Goals as goal
 

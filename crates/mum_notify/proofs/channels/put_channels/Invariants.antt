@@ -1,6 +1,4 @@
-use Rattle.std.proofs.Common.{◌≡◌, drop, fold}
-use Rattle.mum_users.specs.Order.{Rises}
-use Rattle.mum_notify.specs.Channels.{is_lower, with_channel}
+use Rattle.mum_notify.proofs.Common.{◌≡◌, drop, fold, Rises, is_lower, with_channel}
 use Rattle.mum_notify.proofs.channels.put_channels.Given as goal
 
 abbrev pub invariant-loop-id : goal.invariant-loop-id

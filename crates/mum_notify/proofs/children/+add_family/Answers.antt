@@ -1,9 +1,4 @@
-use Rattle.std.proofs.Common.{◌-◌, [], ◌∷◌, ◌++◌, List, ap, ◌∙◌, arith}
-use Rattle.std.specs.List.{flat_map}
-use Rattle.std.proofs.lemmas.List.{take_all}
-use Rattle.mum_notify.specs.Channels.{family}
-use Rattle.mum_notify.specs.Child.{children_in}
-use Rattle.mum_notify.specs.declared.children.Child.{Child}
+use Rattle.mum_notify.proofs.Common.{◌-◌, [], ◌∷◌, ◌++◌, List, ap, ◌∙◌, arith, flat_map, take_all, family, children_in, Child}
 use Rattle.mum_notify.proofs.ByParent.{family_told, no_levels}
 use Rattle.mum_notify.proofs.children.+add_family.Goals as goal
 

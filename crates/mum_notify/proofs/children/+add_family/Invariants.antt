@@ -1,8 +1,4 @@
-use Rattle.std.proofs.Common.{◌≡◌, ◌-◌, ◌<◌, [], ◌∷◌, ◌++◌, filter, take}
-use Rattle.std.specs.List.{flat_map}
-use Rattle.mum_notify.specs.Channels.{family}
-use Rattle.mum_notify.specs.Child.{is_under, children_in}
-use Rattle.mum_notify.specs.declared.children.Child.{Child}
+use Rattle.mum_notify.proofs.Common.{◌≡◌, ◌-◌, ◌<◌, [], ◌∷◌, ◌++◌, filter, take, flat_map, family, is_under, children_in, Child}
 use Rattle.mum_notify.proofs.children.+add_family.Given as goal
 
 abbrev pub invariant-loop-child : goal.invariant-loop-child

@@ -1,5 +1,4 @@
-use Rattle.std.proofs.Common.{◌≡◌, ◌-◌, ◌≤◌, length, take}
-use Rattle.mum_notify.specs.Channels.{channel_ids}
+use Rattle.mum_notify.proofs.Common.{◌≡◌, ◌-◌, ◌≤◌, length, take, channel_ids}
 use Rattle.mum_notify.proofs.children.channel_ids.Given as goal
 
 abbrev pub invariant-loop-id : goal.invariant-loop-id

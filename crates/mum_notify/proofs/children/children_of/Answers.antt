@@ -1,12 +1,6 @@
-use Rattle.std.proofs.Common.{◌∙◌, ◌++◌, ◌∷◌, [], Bool, not, ap}
-use Rattle.std.proofs.lemmas.Bool.{eq-eqb, ne_eqb}
-use Rattle.mum_base.specs.declared.number.ChannelId.{ChannelId}
-use Rattle.mum_tree.specs.Rows.{is_root}
-use Rattle.mum_notify.specs.Child.{child_of}
-use Rattle.mum_notify.specs.declared.children.Child.{Child}
-use Rattle.mum_notify.proofs.Pieces.{passed_at, skipped_at}
+use Rattle.mum_notify.proofs.Common.{◌∙◌, ◌++◌, ◌∷◌, [], Bool, not, ap, eq-eqb, ne_eqb, ChannelId, is_root, child_of, Child}
+use Rattle.mum_notify.proofs.{Pieces.passed_at, Pieces.skipped_at, children.children_of.Goals.then-id+in_ok-push, children.children_of.Goals.else-id}
 use Rattle.mum_notify.proofs.children.children_of.Goals as goal
-use Rattle.mum_notify.proofs.children.children_of.Goals.{then-id+in_ok-push, else-id}
 
 pub loop-id-preserved : goal.loop-id-preserved
 loop-id-preserved c =

@@ -1,5 +1,4 @@
-use Rattle.std.proofs.Common.{◌≡◌, take}
-use Rattle.mum_notify.specs.Child.{children_of}
+use Rattle.mum_notify.proofs.Common.{◌≡◌, take, children_of}
 use Rattle.mum_notify.proofs.children.children_of.Given as goal
 
 abbrev pub invariant-loop-id : goal.invariant-loop-id

@@ -1,12 +1,4 @@
-use Rattle.std.proofs.Common.{◌≡◌, false, true, nat_lt, rules, arith}
-use Rattle.std.specs.Prelude.{IsTrue}
-use Rattle.std.proofs.lemmas.Bool.Decides.{nat_tests}
-use Rattle.std.proofs.lemmas.List.Sorted.{IsPartitionPoint-from_clause}
-use Rattle.mum_base.specs.declared.number.ChannelId.{ChannelId}
-use Rattle.mum_users.proofs.Runs.{run_found}
-use Rattle.mum_users.proofs.Search.{parted, place_between}
-use Rattle.mum_notify.specs.Child.{is_not_after, is_under}
-use Rattle.mum_notify.specs.declared.children.Child.{Child}
+use Rattle.mum_notify.proofs.Common.{◌≡◌, false, true, nat_lt, rules, arith, IsTrue, nat_tests, IsPartitionPoint-from_clause, ChannelId, run_found, parted, place_between, is_not_after, is_under, Child}
 use Rattle.mum_notify.proofs.children.children_under.Goals as goal
 
 before_down : (parent : ChannelId) (x y : Child) → IsTrue (is_not_after x y) → nat_lt y.parent.0 parent.0 ≡ true → nat_lt x.parent.0 parent.0 ≡ true

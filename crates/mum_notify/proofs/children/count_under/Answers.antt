@@ -1,6 +1,4 @@
-use Rattle.std.proofs.Common.{not, arith}
-use Rattle.mum_users.proofs.Places.{unwrap_or-position}
-use Rattle.mum_notify.specs.Child.{is_under}
+use Rattle.mum_notify.proofs.Common.{not, arith, unwrap_or-position, is_under}
 use Rattle.mum_notify.proofs.children.count_under.Goals as goal
 
 pub returns-clause-count : goal.returns-clause-count

@@ -1,7 +1,4 @@
-use Rattle.std.proofs.Common.{ap, ◌∙◌, rules}
-use Rattle.std.proofs.lemmas.List.Sorted.{IsNonDecreasingBy-from_sort_by_key, answers_always}
-use Rattle.mum_notify.specs.Child.{children_of}
-use Rattle.mum_notify.specs.declared.children.Child.{Child}
+use Rattle.mum_notify.proofs.Common.{ap, ◌∙◌, rules, IsNonDecreasingBy-from_sort_by_key, answers_always, children_of, Child}
 use Rattle.mum_notify.proofs.ByParent.{children_are_sorted, rises_from}
 use Rattle.mum_notify.proofs.children.sorted_children.Goals as goal
 

@@ -1,5 +1,4 @@
-use Rattle.mum_base.specs.declared.number.TheConstants.ChannelId.{ROOT}
-use Rattle.mum_tree.specs.declared.channel.TheConstants.{PATH_LIMIT}
+use Rattle.mum_notify.proofs.Common.{ROOT, PATH_LIMIT}
 use Rattle.mum_notify.proofs.ByParent.{order_told}
 use Rattle.mum_notify.proofs.children.tree_order.Goals as goal
 

@@ -1,5 +1,4 @@
-use Rattle.std.proofs.Common.{rules}
-use Rattle.mum_notify.specs.Parcels.{channel_payload}
+use Rattle.mum_notify.proofs.Common.{rules, channel_payload}
 use Rattle.mum_notify.proofs.frames.channel_frame.Goals as goal
 
 pub frame_of-requires : goal.frame_of-requires

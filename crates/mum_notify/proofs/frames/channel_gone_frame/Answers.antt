@@ -1,5 +1,4 @@
-use Rattle.std.proofs.Common.{rules}
-use Rattle.mum_notify.specs.Parcels.{channel_gone_payload}
+use Rattle.mum_notify.proofs.Common.{rules, channel_gone_payload}
 use Rattle.mum_notify.proofs.Bounds.{channel_gone_within}
 use Rattle.mum_notify.proofs.frames.channel_gone_frame.Goals as goal
 

@@ -1,5 +1,4 @@
-use Rattle.std.proofs.Common.{rules}
-use Rattle.mum_notify.specs.Parcels.{codecs_payload}
+use Rattle.mum_notify.proofs.Common.{rules, codecs_payload}
 use Rattle.mum_notify.proofs.Bounds.{codecs_within}
 use Rattle.mum_notify.proofs.frames.codecs_frame.Goals as goal
 

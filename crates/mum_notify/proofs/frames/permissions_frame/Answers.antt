@@ -1,5 +1,4 @@
-use Rattle.std.proofs.Common.{rules}
-use Rattle.mum_notify.specs.Parcels.{permissions_payload}
+use Rattle.mum_notify.proofs.Common.{rules, permissions_payload}
 use Rattle.mum_notify.proofs.Bounds.{permissions_within}
 use Rattle.mum_notify.proofs.frames.permissions_frame.Goals as goal
 

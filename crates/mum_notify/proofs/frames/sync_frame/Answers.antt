@@ -1,5 +1,4 @@
-use Rattle.std.proofs.Common.{rules}
-use Rattle.mum_notify.specs.Parcels.{sync_payload}
+use Rattle.mum_notify.proofs.Common.{rules, sync_payload}
 use Rattle.mum_notify.proofs.frames.sync_frame.Goals as goal
 
 pub frame_of-requires : goal.frame_of-requires

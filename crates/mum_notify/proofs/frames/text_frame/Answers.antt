@@ -1,5 +1,4 @@
-use Rattle.std.proofs.Common.{rules}
-use Rattle.mum_notify.specs.Parcels.{text_payload}
+use Rattle.mum_notify.proofs.Common.{rules, text_payload}
 use Rattle.mum_notify.proofs.frames.text_frame.Goals as goal
 
 pub frame_of-requires : goal.frame_of-requires

@@ -1,5 +1,4 @@
-use Rattle.std.proofs.Common.{rules}
-use Rattle.mum_notify.specs.Parcels.{version_payload}
+use Rattle.mum_notify.proofs.Common.{rules, version_payload}
 use Rattle.mum_notify.proofs.frames.version_frame.Goals as goal
 
 pub frame_of-requires : goal.frame_of-requires

@@ -1,6 +1,4 @@
-use Rattle.std.proofs.Common.{[]}
-use Rattle.mum_notify.specs.Gone.{channel_gone}
-use Rattle.mum_notify.specs.Parcels.{channel_gone_frame}
+use Rattle.mum_notify.proofs.Common.{[], channel_gone, channel_gone_frame}
 use Rattle.mum_notify.proofs.Pieces.{mapped_at}
 use Rattle.mum_notify.proofs.gone.channel_gone_frames.Goals as goal
 

@@ -1,6 +1,4 @@
-use Rattle.std.proofs.Common.{◌≡◌, map, take}
-use Rattle.mum_notify.specs.Gone.{channel_gone}
-use Rattle.mum_notify.specs.Parcels.{channel_gone_frame}
+use Rattle.mum_notify.proofs.Common.{◌≡◌, map, take, channel_gone, channel_gone_frame}
 use Rattle.mum_notify.proofs.gone.channel_gone_frames.Given as goal
 
 abbrev pub invariant-loop-id : goal.invariant-loop-id

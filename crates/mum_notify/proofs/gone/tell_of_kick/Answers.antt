@@ -1,4 +1,4 @@
-use Rattle.mum_notify.specs.Gone.{last_parcel}
+use Rattle.mum_notify.proofs.Common.{last_parcel}
 use Rattle.mum_notify.proofs.Pieces.{mapped_more}
 use Rattle.mum_notify.proofs.gone.tell_of_kick.Goals as goal
 

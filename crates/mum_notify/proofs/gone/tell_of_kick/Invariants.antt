@@ -1,5 +1,4 @@
-use Rattle.std.proofs.Common.{◌≡◌, ◌++◌, map, take}
-use Rattle.mum_notify.specs.Gone.{last_parcel}
+use Rattle.mum_notify.proofs.Common.{◌≡◌, ◌++◌, map, take, last_parcel}
 use Rattle.mum_notify.proofs.gone.tell_of_kick.Given as goal
 
 abbrev pub invariant-loop-user : goal.invariant-loop-user

@@ -1,6 +1,4 @@
-use Rattle.std.proofs.Common.{◌≡◌, ℕ, ◌++◌, ◌∙◌, List, ap, subst}
-use Rattle.std.specs.Result.{OnOk}
-use Rattle.mum_notify.specs.Parcels.{to_each, user_gone_frame}
+use Rattle.mum_notify.proofs.Common.{◌≡◌, ℕ, ◌++◌, ◌∙◌, List, ap, subst, OnOk, to_each, user_gone_frame}
 use Rattle.mum_notify.proofs.Within.{left_fits}
 use Rattle.mum_notify.proofs.gone.tell_of_leave.Goals as goal
 

@@ -1,9 +1,6 @@
-use Rattle.std.proofs.Common.{◌∙◌, Bool, sym}
-use Rattle.mum_base.specs.declared.number.ChannelId.{ChannelId}
-use Rattle.mum_notify.specs.Gone.{is_told_gone}
-use Rattle.mum_notify.proofs.Pieces.{dropped_at, kept_at}
+use Rattle.mum_notify.proofs.Common.{◌∙◌, Bool, sym, ChannelId, is_told_gone}
+use Rattle.mum_notify.proofs.{Pieces.dropped_at, Pieces.kept_at, gone.told_gone.Goals.then-is_told_gone+in_ok-push, gone.told_gone.Goals.else-is_told_gone}
 use Rattle.mum_notify.proofs.gone.told_gone.Goals as goal
-use Rattle.mum_notify.proofs.gone.told_gone.Goals.{then-is_told_gone+in_ok-push, else-is_told_gone}
 
 pub loop-id-preserved : goal.loop-id-preserved
 loop-id-preserved c =

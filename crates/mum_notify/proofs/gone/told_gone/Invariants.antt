@@ -1,5 +1,4 @@
-use Rattle.std.proofs.Common.{◌≡◌, filter, take}
-use Rattle.mum_notify.specs.Gone.{is_told_gone}
+use Rattle.mum_notify.proofs.Common.{◌≡◌, filter, take, is_told_gone}
 use Rattle.mum_notify.proofs.gone.told_gone.Given as goal
 
 abbrev pub invariant-loop-id : goal.invariant-loop-id

@@ -1,5 +1,4 @@
-use Rattle.std.proofs.Common.{arith}
-use Rattle.mum_notify.specs.Parcels.{to_each}
+use Rattle.mum_notify.proofs.Common.{arith, to_each}
 use Rattle.mum_notify.proofs.Pieces.{pieces_more}
 use Rattle.mum_notify.proofs.parcels.tell_all.Goals as goal
 

@@ -1,5 +1,4 @@
-use Rattle.std.proofs.Common.{◌≡◌, ◌++◌, take}
-use Rattle.mum_notify.specs.Parcels.{all_to_each}
+use Rattle.mum_notify.proofs.Common.{◌≡◌, ◌++◌, take, all_to_each}
 use Rattle.mum_notify.proofs.parcels.tell_all.Given as goal
 
 abbrev pub invariant-loop-frame : goal.invariant-loop-frame

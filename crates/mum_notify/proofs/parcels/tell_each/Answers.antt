@@ -1,4 +1,4 @@
-use Rattle.mum_notify.specs.Parcels.{parcel}
+use Rattle.mum_notify.proofs.Common.{parcel}
 use Rattle.mum_notify.proofs.Pieces.{mapped_more}
 use Rattle.mum_notify.proofs.parcels.tell_each.Goals as goal
 

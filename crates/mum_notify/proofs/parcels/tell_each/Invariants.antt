@@ -1,5 +1,4 @@
-use Rattle.std.proofs.Common.{◌≡◌, ◌++◌, take}
-use Rattle.mum_notify.specs.Parcels.{to_each}
+use Rattle.mum_notify.proofs.Common.{◌≡◌, ◌++◌, take, to_each}
 use Rattle.mum_notify.proofs.parcels.tell_each.Given as goal
 
 abbrev pub invariant-loop-user : goal.invariant-loop-user

@@ -1,7 +1,4 @@
-use Rattle.std.proofs.Common.{◌≡◌, subst}
-use Rattle.std.specs.Result.{IfOk}
-use Rattle.mum_msg_state.specs.declared.version.Version.{Version}
-use Rattle.mum_notify.specs.Parcels.{version_frame}
+use Rattle.mum_notify.proofs.Common.{◌≡◌, subst, IfOk, Version, version_frame}
 use Rattle.mum_notify.proofs.Within.{version_fits}
 use Rattle.mum_notify.proofs.sync.frame_of_version.Goals as goal
 

@@ -1,9 +1,5 @@
-use Rattle.std.proofs.Common.{◌≡◌, subst}
-use Rattle.std.specs.Result.{IfOk}
-use Rattle.mum_msg_state.specs.declared.server_sync.ServerSync.{ServerSync}
-use Rattle.mum_notify.specs.Parcels.{sync_frame}
-use Rattle.mum_notify.proofs.Sent.{root_there}
-use Rattle.mum_notify.proofs.Within.{welcome_fits}
+use Rattle.mum_notify.proofs.Common.{◌≡◌, subst, IfOk, ServerSync, sync_frame}
+use Rattle.mum_notify.proofs.{Sent.root_there, Within.welcome_fits}
 use Rattle.mum_notify.proofs.sync.frame_of_welcome.Goals as goal
 
 pub welcome_told-requires : goal.welcome_told-requires

@@ -1,5 +1,4 @@
-use Rattle.std.proofs.Common.{◌≡◌, ◌++◌, map, take}
-use Rattle.mum_notify.specs.Parcels.{parcel}
+use Rattle.mum_notify.proofs.Common.{◌≡◌, ◌++◌, map, take, parcel}
 use Rattle.mum_notify.proofs.sync.send_all.Given as goal
 
 abbrev pub invariant-loop-frame : goal.invariant-loop-frame

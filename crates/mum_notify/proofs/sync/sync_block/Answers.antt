@@ -1,4 +1,4 @@
-use Rattle.std.proofs.Common.{◌∙◌}
+use Rattle.mum_notify.proofs.Common.{◌∙◌}
 use Rattle.mum_notify.proofs.Sent.{block_sent}
 use Rattle.mum_notify.proofs.sync.sync_block.Goals as goal
 

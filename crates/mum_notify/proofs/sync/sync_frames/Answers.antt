@@ -1,12 +1,5 @@
-use Rattle.std.proofs.Common.{◌∙◌, [], ◌∷◌, ◌++◌, ℕ, List, ap}
-use Rattle.std.specs.Prelude.{map}
-use Rattle.mum_users.specs.State.{RosterState}
-use Rattle.mum_users.specs.declared.user.User.{User}
-use Rattle.mum_notify.specs.Parcels.{channel_frame, codecs_frame, sync_frame, user_frame, version_frame}
-use Rattle.mum_notify.specs.Sync.{all_links_told, server_codecs, server_version, tree_told, welcome_told}
-use Rattle.mum_notify.specs.Users.{user_told}
-use Rattle.mum_notify.proofs.Sent.{all_synced}
-use Rattle.mum_notify.proofs.Within.{all_sound}
+use Rattle.mum_notify.proofs.Common.{◌∙◌, [], ◌∷◌, ◌++◌, ℕ, List, ap, map, RosterState, User, channel_frame, codecs_frame, sync_frame, user_frame, version_frame, all_links_told, server_codecs, server_version, tree_told, welcome_told, user_told}
+use Rattle.mum_notify.proofs.{Sent.all_synced, Within.all_sound}
 use Rattle.mum_notify.proofs.sync.sync_frames.Goals as goal
 
 pub tell_users-requires : goal.tell_users-requires

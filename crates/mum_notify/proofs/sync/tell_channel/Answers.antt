@@ -1,5 +1,4 @@
-use Rattle.std.proofs.Common.{refl}
-use Rattle.mum_notify.specs.Channels.{channel_told}
+use Rattle.mum_notify.proofs.Common.{refl, channel_told}
 use Rattle.mum_notify.proofs.Within.{channel_fits}
 use Rattle.mum_notify.proofs.sync.tell_channel.Goals as goal
 

@@ -1,7 +1,4 @@
-use Rattle.std.specs.Prelude.{map}
-use Rattle.mum_state.specs.Named.{given}
-use Rattle.mum_notify.specs.Channels.{channel_of, channel_told}
-use Rattle.mum_notify.specs.Parcels.{channel_frame}
+use Rattle.mum_notify.proofs.Common.{map, given, channel_of, channel_told, channel_frame}
 use Rattle.mum_notify.proofs.Pieces.{told_at}
 use Rattle.mum_notify.proofs.sync.tell_channels.Goals as goal
 

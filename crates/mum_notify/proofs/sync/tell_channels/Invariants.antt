@@ -1,8 +1,4 @@
-use Rattle.std.proofs.Common.{◌≡◌, ◌++◌, map, take}
-use Rattle.std.specs.List.{flat_map}
-use Rattle.mum_state.specs.Named.{given}
-use Rattle.mum_notify.specs.Channels.{channel_of, channel_told}
-use Rattle.mum_notify.specs.Parcels.{channel_frame}
+use Rattle.mum_notify.proofs.Common.{◌≡◌, ◌++◌, map, take, flat_map, given, channel_of, channel_told, channel_frame}
 use Rattle.mum_notify.proofs.sync.tell_channels.Given as goal
 
 abbrev pub invariant-loop-id : goal.invariant-loop-id

@@ -1,5 +1,4 @@
-use Rattle.mum_notify.specs.Channels.{has_links, if_it_tells, links_told}
-use Rattle.mum_notify.specs.Parcels.{channel_frame}
+use Rattle.mum_notify.proofs.Common.{has_links, if_it_tells, links_told, channel_frame}
 use Rattle.mum_notify.proofs.Pieces.{told_at}
 use Rattle.mum_notify.proofs.sync.tell_links.Goals as goal
 

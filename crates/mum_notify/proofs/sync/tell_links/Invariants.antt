@@ -1,7 +1,4 @@
-use Rattle.std.proofs.Common.{◌≡◌, ◌++◌, map, take}
-use Rattle.std.specs.List.{flat_map}
-use Rattle.mum_notify.specs.Channels.{has_links, if_it_tells, links_told}
-use Rattle.mum_notify.specs.Parcels.{channel_frame}
+use Rattle.mum_notify.proofs.Common.{◌≡◌, ◌++◌, map, take, flat_map, has_links, if_it_tells, links_told, channel_frame}
 use Rattle.mum_notify.proofs.sync.tell_links.Given as goal
 
 abbrev pub invariant-loop-id : goal.invariant-loop-id

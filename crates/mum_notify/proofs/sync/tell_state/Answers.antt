@@ -1,6 +1,4 @@
-use Rattle.std.proofs.Common.{◌≡◌, ℕ, ◌++◌, ◌∙◌, List, map, subst}
-use Rattle.std.specs.Result.{OnOk}
-use Rattle.mum_notify.specs.Parcels.{parcel}
+use Rattle.mum_notify.proofs.Common.{◌≡◌, ℕ, ◌++◌, ◌∙◌, List, map, subst, OnOk, parcel}
 use Rattle.mum_notify.proofs.sync.tell_state.Goals as goal
 
 pub returns : goal.returns

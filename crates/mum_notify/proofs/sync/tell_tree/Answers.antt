@@ -1,10 +1,4 @@
-use Rattle.std.proofs.Common.{◌∙◌, ap}
-use Rattle.std.specs.Prelude.{map}
-use Rattle.std.specs.List.{flat_map}
-use Rattle.mum_state.specs.Named.{given}
-use Rattle.mum_notify.specs.Channels.{channel_ids, channel_of, channel_told, has_links, if_it_tells, links_told}
-use Rattle.mum_notify.specs.Parcels.{channel_frame}
-use Rattle.mum_notify.specs.Sync.{tree_order}
+use Rattle.mum_notify.proofs.Common.{◌∙◌, ap, map, flat_map, given, channel_ids, channel_of, channel_told, has_links, if_it_tells, links_told, channel_frame, tree_order}
 use Rattle.mum_notify.proofs.Sent.{two_added}
 use Rattle.mum_notify.proofs.sync.tell_tree.Goals as goal
 

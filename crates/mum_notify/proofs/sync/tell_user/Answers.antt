@@ -1,5 +1,4 @@
-use Rattle.std.proofs.Common.{refl}
-use Rattle.mum_notify.specs.Users.{user_told}
+use Rattle.mum_notify.proofs.Common.{refl, user_told}
 use Rattle.mum_notify.proofs.Within.{user_fits}
 use Rattle.mum_notify.proofs.sync.tell_user.Goals as goal
 

@@ -1,7 +1,5 @@
-use Rattle.mum_notify.specs.Parcels.{user_frame}
-use Rattle.mum_notify.specs.Users.{user_told}
-use Rattle.mum_notify.proofs.Pieces.{mapped_more}
-use Rattle.mum_notify.proofs.Within.{sound_at}
+use Rattle.mum_notify.proofs.Common.{user_frame, user_told}
+use Rattle.mum_notify.proofs.{Pieces.mapped_more, Within.sound_at}
 use Rattle.mum_notify.proofs.sync.tell_users.Goals as goal
 
 pub tell_user-requires : goal.tell_user-requires

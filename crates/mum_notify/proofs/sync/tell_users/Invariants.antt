@@ -1,6 +1,4 @@
-use Rattle.std.proofs.Common.{◌≡◌, ◌++◌, map, take}
-use Rattle.mum_notify.specs.Parcels.{user_frame}
-use Rattle.mum_notify.specs.Users.{user_told}
+use Rattle.mum_notify.proofs.Common.{◌≡◌, ◌++◌, map, take, user_frame, user_told}
 use Rattle.mum_notify.proofs.sync.tell_users.Given as goal
 
 abbrev pub invariant-loop-user : goal.invariant-loop-user

@@ -1,10 +1,4 @@
-use Rattle.std.proofs.Common.{◌∙◌, map}
-use Rattle.mum_notify.specs.Channels.{channel_changes_told, new_channels_told}
-use Rattle.mum_notify.specs.Gone.{channel_gone, channels_gone, departure}
-use Rattle.mum_notify.specs.Notices.{arrival, closes}
-use Rattle.mum_notify.specs.Parcels.{all_to_each, channel_frame, channel_gone_frame, user_frame}
-use Rattle.mum_notify.specs.Texts.{permission_parcels, text_parcels}
-use Rattle.mum_notify.specs.Users.{user_changes_told}
+use Rattle.mum_notify.proofs.Common.{◌∙◌, map, channel_changes_told, new_channels_told, channel_gone, channels_gone, departure, arrival, closes, all_to_each, channel_frame, channel_gone_frame, user_frame, permission_parcels, text_parcels, user_changes_told}
 use Rattle.mum_notify.proofs.Sent.{all_sent}
 use Rattle.mum_notify.proofs.telling.notices.Goals as goal
 

@@ -1,8 +1,4 @@
-use Rattle.std.proofs.Common.{◌≡◌, ◌++◌, ◌∙◌, List, ap, subst}
-use Rattle.std.specs.Result.{OnOk}
-use Rattle.mum_users.specs.State.{RosterState}
-use Rattle.mum_users.specs.declared.user.User.{User}
-use Rattle.mum_notify.specs.Parcels.{all_to_each}
+use Rattle.mum_notify.proofs.Common.{◌≡◌, ◌++◌, ◌∙◌, List, ap, subst, OnOk, RosterState, User, all_to_each}
 use Rattle.mum_notify.proofs.telling.tell_here.Goals as goal
 
 pub returns : goal.returns

@@ -1,7 +1,5 @@
-use Rattle.std.proofs.Common.{refl}
-use Rattle.mum_notify.specs.Users.{user_told}
-use Rattle.mum_notify.proofs.Sent.{arrived, so_on_ok}
-use Rattle.mum_notify.proofs.Within.{sound_found, user_fits}
+use Rattle.mum_notify.proofs.Common.{refl, user_told}
+use Rattle.mum_notify.proofs.{Sent.arrived, Sent.so_on_ok, Within.sound_found, Within.user_fits}
 use Rattle.mum_notify.proofs.telling.tell_of_arrival.Goals as goal
 
 pub frame_of_user-requires : goal.frame_of_user-requires

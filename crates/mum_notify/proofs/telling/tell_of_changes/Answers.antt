@@ -1,10 +1,4 @@
-use Rattle.std.proofs.Common.{◌∙◌, Bool, List, ap, map, not}
-use Rattle.mum_base.specs.declared.number.ChannelId.{ChannelId}
-use Rattle.mum_state.specs.Kinds.{is_empty}
-use Rattle.mum_notify.specs.Gone.{channel_gone, channels_gone}
-use Rattle.mum_notify.specs.Notices.{closes}
-use Rattle.mum_notify.specs.Parcels.{channel_gone_frame, user_frame}
-use Rattle.mum_notify.specs.Users.{user_changes_told}
+use Rattle.mum_notify.proofs.Common.{◌∙◌, Bool, List, ap, map, not, ChannelId, is_empty, channel_gone, channels_gone, closes, channel_gone_frame, user_frame, user_changes_told}
 use Rattle.mum_notify.proofs.Sent.{two_sent}
 use Rattle.mum_notify.proofs.telling.tell_of_changes.Goals as goal
 

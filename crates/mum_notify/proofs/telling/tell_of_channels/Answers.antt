@@ -1,6 +1,4 @@
-use Rattle.std.proofs.Common.{map}
-use Rattle.mum_notify.specs.Channels.{channel_changes_told, new_channels_told}
-use Rattle.mum_notify.specs.Parcels.{channel_frame}
+use Rattle.mum_notify.proofs.Common.{map, channel_changes_told, new_channels_told, channel_frame}
 use Rattle.mum_notify.proofs.Sent.{two_sent}
 use Rattle.mum_notify.proofs.telling.tell_of_channels.Goals as goal
 

@@ -1,10 +1,6 @@
-use Rattle.std.proofs.Common.{◌∙◌, Bool, not, sym}
-use Rattle.mum_users.specs.State.{has_number}
-use Rattle.mum_users.specs.declared.user.User.{User}
-use Rattle.mum_notify.specs.Parcels.{parcel}
-use Rattle.mum_notify.proofs.Pieces.{dropped_more, kept_more}
+use Rattle.mum_notify.proofs.Common.{◌∙◌, Bool, not, sym, has_number, User, parcel}
+use Rattle.mum_notify.proofs.{Pieces.dropped_more, Pieces.kept_more, telling.tell_others.Goals.then-is_other+in_ok-tell_one, telling.tell_others.Goals.else-is_other}
 use Rattle.mum_notify.proofs.telling.tell_others.Goals as goal
-use Rattle.mum_notify.proofs.telling.tell_others.Goals.{then-is_other+in_ok-tell_one, else-is_other}
 
 pub loop-user-preserved : goal.loop-user-preserved
 loop-user-preserved c =

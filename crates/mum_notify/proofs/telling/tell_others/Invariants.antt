@@ -1,6 +1,4 @@
-use Rattle.std.proofs.Common.{◌≡◌, ◌++◌, filter, not, take}
-use Rattle.mum_users.specs.State.{has_number}
-use Rattle.mum_notify.specs.Parcels.{to_each}
+use Rattle.mum_notify.proofs.Common.{◌≡◌, ◌++◌, filter, not, take, has_number, to_each}
 use Rattle.mum_notify.proofs.telling.tell_others.Given as goal
 
 abbrev pub invariant-loop-user : goal.invariant-loop-user

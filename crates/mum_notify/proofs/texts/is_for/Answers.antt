@@ -1,4 +1,4 @@
-use Rattle.std.proofs.Common.{◌∙◌}
+use Rattle.mum_notify.proofs.Common.{◌∙◌}
 use Rattle.mum_notify.proofs.Reached.{reached_alike}
 use Rattle.mum_notify.proofs.texts.is_for.Goals as goal
 

@@ -1,6 +1,4 @@
-use Rattle.std.proofs.Common.{subst}
-use Rattle.mum_notify.specs.Sorted.{ListAlike}
-use Rattle.mum_notify.specs.Texts.{is_for}
+use Rattle.mum_notify.proofs.Common.{subst, ListAlike, is_for}
 use Rattle.mum_notify.proofs.Sent.{so_on_ok, text_spread}
 use Rattle.mum_notify.proofs.texts.send_text.Goals as goal
 

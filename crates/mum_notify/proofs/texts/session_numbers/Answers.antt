@@ -1,5 +1,4 @@
-use Rattle.std.proofs.Common.{[]}
-use Rattle.mum_base.specs.declared.number.SessionId.{SessionId}
+use Rattle.mum_notify.proofs.Common.{[], SessionId}
 use Rattle.mum_notify.proofs.Pieces.{mapped_at}
 use Rattle.mum_notify.proofs.texts.session_numbers.Goals as goal
 

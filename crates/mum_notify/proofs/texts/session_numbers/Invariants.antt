@@ -1,5 +1,4 @@
-use Rattle.std.proofs.Common.{◌≡◌, take}
-use Rattle.mum_notify.specs.Texts.{session_numbers}
+use Rattle.mum_notify.proofs.Common.{◌≡◌, take, session_numbers}
 use Rattle.mum_notify.proofs.texts.session_numbers.Given as goal
 
 abbrev pub invariant-loop-session : goal.invariant-loop-session

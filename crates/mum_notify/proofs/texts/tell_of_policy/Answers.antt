@@ -1,5 +1,4 @@
-use Rattle.std.proofs.Common.{ap}
-use Rattle.mum_notify.specs.Texts.{permission_parcels}
+use Rattle.mum_notify.proofs.Common.{ap, permission_parcels}
 use Rattle.mum_notify.proofs.Sent.{all_inside, policy_sent, so_on_ok}
 use Rattle.mum_notify.proofs.texts.tell_of_policy.Goals as goal
 

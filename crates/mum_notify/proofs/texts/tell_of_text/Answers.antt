@@ -1,5 +1,4 @@
-use Rattle.std.proofs.Common.{ap}
-use Rattle.mum_msg_rule.specs.declared.text_message.TextMessage.{TextMessage}
+use Rattle.mum_notify.proofs.Common.{ap, TextMessage}
 use Rattle.mum_notify.proofs.Sent.{sent_fits, so_on_ok, text_sent}
 use Rattle.mum_notify.proofs.texts.tell_of_text.Goals as goal
 

@@ -1,6 +1,5 @@
-use Rattle.mum_notify.specs.Texts.{permission_parcel}
-use Rattle.mum_notify.proofs.Pieces.{mapped_more}
-use Rattle.mum_notify.proofs.Sent.{inside_at}
+use Rattle.mum_notify.proofs.Common.{permission_parcel}
+use Rattle.mum_notify.proofs.{Pieces.mapped_more, Sent.inside_at}
 use Rattle.mum_notify.proofs.texts.tell_permissions.Goals as goal
 
 pub loop-user-preserved : goal.loop-user-preserved

@@ -1,5 +1,4 @@
-use Rattle.std.proofs.Common.{◌≡◌, ◌++◌, map, take}
-use Rattle.mum_notify.specs.Texts.{permission_parcel}
+use Rattle.mum_notify.proofs.Common.{◌≡◌, ◌++◌, map, take, permission_parcel}
 use Rattle.mum_notify.proofs.texts.tell_permissions.Given as goal
 
 abbrev pub invariant-loop-user : goal.invariant-loop-user

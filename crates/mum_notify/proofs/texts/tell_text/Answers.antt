@@ -1,10 +1,6 @@
-use Rattle.std.proofs.Common.{◌∙◌, Bool, sym}
-use Rattle.mum_users.specs.declared.user.User.{User}
-use Rattle.mum_notify.specs.Parcels.{parcel}
-use Rattle.mum_notify.specs.Texts.{is_for}
-use Rattle.mum_notify.proofs.Pieces.{dropped_more, kept_more}
+use Rattle.mum_notify.proofs.Common.{◌∙◌, Bool, sym, User, parcel, is_for}
+use Rattle.mum_notify.proofs.{Pieces.dropped_more, Pieces.kept_more, texts.tell_text.Goals.then-is_for+in_ok-tell_one, texts.tell_text.Goals.else-is_for}
 use Rattle.mum_notify.proofs.texts.tell_text.Goals as goal
-use Rattle.mum_notify.proofs.texts.tell_text.Goals.{then-is_for+in_ok-tell_one, else-is_for}
 
 pub loop-user-preserved : goal.loop-user-preserved
 loop-user-preserved c =

@@ -1,6 +1,4 @@
-use Rattle.std.proofs.Common.{◌≡◌, ◌++◌, filter, take}
-use Rattle.mum_notify.specs.Parcels.{to_each}
-use Rattle.mum_notify.specs.Texts.{is_for}
+use Rattle.mum_notify.proofs.Common.{◌≡◌, ◌++◌, filter, take, to_each, is_for}
 use Rattle.mum_notify.proofs.texts.tell_text.Given as goal
 
 abbrev pub invariant-loop-user : goal.invariant-loop-user

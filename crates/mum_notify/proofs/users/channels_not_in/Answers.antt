@@ -1,9 +1,6 @@
-use Rattle.std.proofs.Common.{◌∙◌, Bool, not, ap, sym}
-use Rattle.mum_users.specs.Listeners.{listens}
-use Rattle.mum_users.specs.declared.listening.ListenerPair.{ListenerPair}
-use Rattle.mum_notify.proofs.Pieces.{passed_at, skipped_at}
+use Rattle.mum_notify.proofs.Common.{◌∙◌, Bool, not, ap, sym, listens, ListenerPair}
+use Rattle.mum_notify.proofs.{Pieces.passed_at, Pieces.skipped_at, users.channels_not_in.Goals.then-not-listens+in_ok-push, users.channels_not_in.Goals.else-not-listens}
 use Rattle.mum_notify.proofs.users.channels_not_in.Goals as goal
-use Rattle.mum_notify.proofs.users.channels_not_in.Goals.{then-not-listens+in_ok-push, else-not-listens}
 
 pub loop-pair-preserved : goal.loop-pair-preserved
 loop-pair-preserved c =

@@ -1,6 +1,4 @@
-use Rattle.std.proofs.Common.{◌≡◌, filter, map, not, take}
-use Rattle.mum_users.specs.Listeners.{listens}
-use Rattle.mum_users.specs.declared.listening.ListenerPair.{ListenerPair}
+use Rattle.mum_notify.proofs.Common.{◌≡◌, filter, map, not, take, listens, ListenerPair}
 use Rattle.mum_notify.proofs.users.channels_not_in.Given as goal
 
 abbrev pub invariant-loop-pair : goal.invariant-loop-pair

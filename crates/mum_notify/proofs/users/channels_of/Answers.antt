@@ -1,5 +1,4 @@
-use Rattle.std.proofs.Common.{[]}
-use Rattle.mum_users.specs.declared.listening.ListenerPair.{ListenerPair}
+use Rattle.mum_notify.proofs.Common.{[], ListenerPair}
 use Rattle.mum_notify.proofs.Pieces.{mapped_at}
 use Rattle.mum_notify.proofs.users.channels_of.Goals as goal
 

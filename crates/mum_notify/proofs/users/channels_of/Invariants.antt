@@ -1,5 +1,4 @@
-use Rattle.std.proofs.Common.{◌≡◌, map, take}
-use Rattle.mum_users.specs.declared.listening.ListenerPair.{ListenerPair}
+use Rattle.mum_notify.proofs.Common.{◌≡◌, map, take, ListenerPair}
 use Rattle.mum_notify.proofs.users.channels_of.Given as goal
 
 abbrev pub invariant-loop-pair : goal.invariant-loop-pair

@@ -1,8 +1,5 @@
-use Rattle.std.proofs.Common.{[], arith}
-use Rattle.mum_notify.specs.Users.{user_difference}
-use Rattle.mum_notify.specs.Parcels.{user_frame}
-use Rattle.mum_notify.proofs.Pieces.{told_more}
-use Rattle.mum_notify.proofs.Within.{sound_at}
+use Rattle.mum_notify.proofs.Common.{[], arith, user_difference, user_frame}
+use Rattle.mum_notify.proofs.{Pieces.told_more, Within.sound_at}
 use Rattle.mum_notify.proofs.users.differences.Goals as goal
 
 pub loop-user-preserved : goal.loop-user-preserved

@@ -1,7 +1,4 @@
-use Rattle.std.proofs.Common.{◌≡◌, map, take}
-use Rattle.std.specs.List.{flat_map}
-use Rattle.mum_notify.specs.Parcels.{user_frame}
-use Rattle.mum_notify.specs.Users.{user_difference}
+use Rattle.mum_notify.proofs.Common.{◌≡◌, map, take, flat_map, user_frame, user_difference}
 use Rattle.mum_notify.proofs.users.differences.Given as goal
 
 abbrev pub invariant-loop-user : goal.invariant-loop-user

@@ -1,7 +1,4 @@
-use Rattle.std.proofs.Common.{◌≡◌, subst, sym}
-use Rattle.std.specs.Result.{IfOk}
-use Rattle.mum_msg_state.specs.declared.user_state.UserState.{UserState}
-use Rattle.mum_notify.specs.Parcels.{IsWithinFrame, user_frame, user_payload}
+use Rattle.mum_notify.proofs.Common.{◌≡◌, subst, sym, IfOk, UserState, IsWithinFrame, user_frame, user_payload}
 use Rattle.mum_notify.proofs.users.frame_of_user.Goals as goal
 
 pub user_frame-requires : goal.user_frame-requires

@@ -1,7 +1,4 @@
-use Rattle.std.proofs.Common.{◌≡◌, ◌∙◌, [], ◌∷◌, ◌++◌, List, ap, append-nil, length, subst, sym, arith}
-use Rattle.std.specs.Vec.Iter.{into_iter_items}
-use Rattle.mum_outbox.specs.Facts.{QueueFacts}
-use Rattle.mum_owner.specs.Bell.{SideFacts, new_side}
+use Rattle.mum_owner.proofs.Common.{◌≡◌, ◌∙◌, [], ◌∷◌, ◌++◌, List, ap, append-nil, length, subst, sym, arith, into_iter_items, QueueFacts, SideFacts, new_side}
 use Rattle.mum_owner.proofs.Telling.{new_sides, no_bell_left, one_side_more}
 use Rattle.mum_owner.proofs.bells.sides_of.Goals as goal
 

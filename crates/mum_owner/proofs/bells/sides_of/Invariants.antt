@@ -1,5 +1,4 @@
-use Rattle.std.proofs.Common.{◌≡◌, ◌++◌, length}
-use Rattle.std.specs.Vec.Iter.{into_iter_items, into_iter_len}
+use Rattle.mum_owner.proofs.Common.{◌≡◌, ◌++◌, length, into_iter_items, into_iter_len}
 use Rattle.mum_owner.proofs.Telling.{new_sides}
 use Rattle.mum_owner.proofs.bells.sides_of.Given as goal
 

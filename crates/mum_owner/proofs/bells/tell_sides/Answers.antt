@@ -1,6 +1,4 @@
-use Rattle.std.proofs.Common.{◌≡◌, ◌+◌, ◌<◌, ℕ, Bool, List, drop, length, get_or, set, refl, sym, subst, arith}
-use Rattle.mum_owner.specs.Bell.{SideFacts}
-use Rattle.mum_owner.specs.Ringing.{TellsEach}
+use Rattle.mum_owner.proofs.Common.{◌≡◌, ◌+◌, ◌<◌, ℕ, Bool, List, drop, length, get_or, set, refl, sym, subst, arith, SideFacts, TellsEach}
 use Rattle.mum_owner.proofs.Telling.{ToldSoFar, front_of, same_length, told_all, told_more, told_none}
 use Rattle.mum_owner.proofs.bells.tell_sides.Goals as goal
 

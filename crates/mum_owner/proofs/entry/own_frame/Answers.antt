@@ -1,4 +1,4 @@
-use Rattle.std.proofs.Common.{rules}
+use Rattle.mum_owner.proofs.Common.{rules}
 use Rattle.mum_rules_tree.specs.Asked as channels
 use Rattle.mum_rules_user.specs.Asked as users
 use Rattle.mum_owner.proofs.entry.own_frame.Goals as goal

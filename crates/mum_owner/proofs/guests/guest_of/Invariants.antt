@@ -1,6 +1,4 @@
-use Rattle.std.proofs.Common.{◌≡◌, drop}
-use Rattle.std.specs.Prelude.{find}
-use Rattle.mum_owner.specs.Guests.{is_of}
+use Rattle.mum_owner.proofs.Common.{◌≡◌, drop, find, is_of}
 use Rattle.mum_owner.proofs.guests.guest_of.Given as goal
 
 abbrev pub invariant-loop-guest : goal.invariant-loop-guest

@@ -1,5 +1,4 @@
-use Rattle.std.proofs.Common.{◌≡◌, drop}
-use Rattle.mum_owner.specs.Guests.{guest_with}
+use Rattle.mum_owner.proofs.Common.{◌≡◌, drop, guest_with}
 use Rattle.mum_owner.proofs.guests.guest_with.Given as goal
 
 abbrev pub invariant-loop-guest : goal.invariant-loop-guest

@@ -1,6 +1,4 @@
-use Rattle.std.proofs.Common.{◌≡◌, drop}
-use Rattle.std.specs.Prelude.{find}
-use Rattle.mum_owner.specs.Guests.{may_lag}
+use Rattle.mum_owner.proofs.Common.{◌≡◌, drop, find, may_lag}
 use Rattle.mum_owner.proofs.guests.lagging_in.Given as goal
 
 abbrev pub invariant-loop-guest : goal.invariant-loop-guest

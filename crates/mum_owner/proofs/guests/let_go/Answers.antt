@@ -1,5 +1,4 @@
-use Rattle.std.proofs.Common.{rules}
-use Rattle.std.proofs.lemmas.Fn.{filter_same}
+use Rattle.mum_owner.proofs.Common.{rules, filter_same}
 use Rattle.mum_owner.proofs.guests.let_go.Goals as goal
 
 pub returns-clause-rows : goal.returns-clause-rows

@@ -1,6 +1,4 @@
-use Rattle.std.proofs.Common.{◌<◌, List, length, arith}
-use Rattle.mum_owner.specs.Guests.{lag_noted}
-use Rattle.mum_owner.specs.declared.guests.Guest.{Guest}
+use Rattle.mum_owner.proofs.Common.{◌<◌, List, length, arith, lag_noted, Guest}
 use Rattle.mum_owner.proofs.Rows.{mapped_more}
 use Rattle.mum_owner.proofs.guests.note_lag_in.Goals as goal
 

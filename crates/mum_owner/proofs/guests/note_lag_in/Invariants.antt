@@ -1,5 +1,4 @@
-use Rattle.std.proofs.Common.{◌≡◌, ◌++◌, drop, map, take}
-use Rattle.mum_owner.specs.Guests.{lag_noted}
+use Rattle.mum_owner.proofs.Common.{◌≡◌, ◌++◌, drop, map, take, lag_noted}
 use Rattle.mum_owner.proofs.guests.note_lag_in.Given as goal
 
 abbrev pub invariant-loop-guest : goal.invariant-loop-guest

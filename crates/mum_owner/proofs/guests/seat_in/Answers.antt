@@ -1,6 +1,4 @@
-use Rattle.std.proofs.Common.{◌<◌, List, length, arith}
-use Rattle.mum_owner.specs.Guests.{seated}
-use Rattle.mum_owner.specs.declared.guests.Guest.{Guest}
+use Rattle.mum_owner.proofs.Common.{◌<◌, List, length, arith, seated, Guest}
 use Rattle.mum_owner.proofs.Rows.{mapped_more}
 use Rattle.mum_owner.proofs.guests.seat_in.Goals as goal
 

@@ -1,5 +1,4 @@
-use Rattle.std.proofs.Common.{◌≡◌, ◌++◌, drop, map, take}
-use Rattle.mum_owner.specs.Guests.{seated}
+use Rattle.mum_owner.proofs.Common.{◌≡◌, ◌++◌, drop, map, take, seated}
 use Rattle.mum_owner.proofs.guests.seat_in.Given as goal
 
 abbrev pub invariant-loop-guest : goal.invariant-loop-guest

@@ -1,4 +1,4 @@
-use Rattle.std.proofs.Common.{arith}
+use Rattle.mum_pace.proofs.Common.{arith}
 use Rattle.mum_pace.proofs.Arriving.{all_come_in}
 use Rattle.mum_pace.proofs.laws.arrivals_are_within_the_rate.Goals as goal
 

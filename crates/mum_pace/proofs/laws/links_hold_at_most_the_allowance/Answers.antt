@@ -1,5 +1,4 @@
-use Rattle.std.proofs.Common.{◌≤◌, subst}
-use Rattle.mum_pace.specs.declared.long.TheConstants.{LONG_FRAMES_LIMIT}
+use Rattle.mum_pace.proofs.Common.{◌≤◌, subst, LONG_FRAMES_LIMIT}
 use Rattle.mum_pace.proofs.laws.links_hold_at_most_the_allowance.Goals as goal
 
 pub returns : goal.returns

@@ -1,4 +1,4 @@
-use Rattle.std.proofs.Common.{sym, ◌∙◌}
+use Rattle.mum_pace.proofs.Common.{sym, ◌∙◌}
 use Rattle.mum_pace.proofs.Sayings.{no_number, number_unless_0, some_number}
 use Rattle.mum_pace.proofs.pace.number.Goals as goal
 

@@ -1,6 +1,4 @@
-use Rattle.std.proofs.Common.{◌≡◌, ◌<◌, ℕ, None, length, get_or}
-use Rattle.std.specs.Option.{option_copied}
-use Rattle.mum_base.specs.declared.number.ChannelId.{ChannelId}
+use Rattle.mum_policy.proofs.Common.{◌≡◌, ◌<◌, ℕ, None, length, get_or, option_copied, ChannelId}
 use Rattle.mum_policy.proofs.found.found_on.Given as goal
 
 abbrev pub invariant-loop-place : goal.invariant-loop-place

@@ -1,5 +1,4 @@
-use Rattle.std.proofs.Common.{◌∙◌}
-use Rattle.mum_policy.specs.Member.{actor_of}
+use Rattle.mum_policy.proofs.Common.{◌∙◌, actor_of}
 use Rattle.mum_policy.proofs.Paths.{is_in-at}
 use Rattle.mum_policy.proofs.group.is_in.Goals as goal
 

@@ -1,10 +1,6 @@
-use Rattle.std.proofs.Common.{◌≡◌, ◌&&◌, Bool, true, false, not, ◌∙◌, refl}
-use Rattle.mum_policy.specs.Member.{is_listed}
-use Rattle.std.specs.Option.{option_copied}
-use Rattle.mum_policy.proofs.Parts.{found_at, part_before}
-use Rattle.mum_policy.proofs.Members.{found_above, found_barred, found_decided, found_no_further, found_further, found_nowhere}
+use Rattle.mum_policy.proofs.Common.{◌≡◌, ◌&&◌, Bool, true, false, not, ◌∙◌, refl, is_listed, option_copied}
+use Rattle.mum_policy.proofs.{Parts.found_at, Parts.part_before, Members.found_above, Members.found_barred, Members.found_decided, Members.found_no_further, Members.found_further, Members.found_nowhere, group.is_in_defined.Goals.else-above-via-then-above+else-not-group, group.is_in_defined.Goals.else-above-via-else-above}
 use Rattle.mum_policy.proofs.group.is_in_defined.Goals as goal
-use Rattle.mum_policy.proofs.group.is_in_defined.Goals.{else-above-via-then-above+else-not-group, else-above-via-else-above}
 
 barred : (above inheritable : Bool) → above ≡ true → inheritable ≡ false → (above && not inheritable) ≡ true
 barred above inheritable is e = rw (is, e) refl

@@ -1,6 +1,5 @@
-use Rattle.std.proofs.Common.{◌≡◌, false, length}
-use Rattle.mum_policy.proofs.Parts.{IsPart}
-use Rattle.mum_policy.proofs.Members.{found}
+use Rattle.mum_policy.proofs.Common.{◌≡◌, false, length}
+use Rattle.mum_policy.proofs.{Parts.IsPart, Members.found}
 use Rattle.mum_policy.proofs.group.is_in_defined.Given as goal
 
 abbrev pub invariant-upwards : goal.invariant-upwards

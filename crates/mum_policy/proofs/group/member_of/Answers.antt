@@ -1,6 +1,4 @@
-use Rattle.std.proofs.Common.{◌≡◌, ◌∙◌, List, ℕ, true, codes, ap, sym}
-use Rattle.std.specs.Str.{bytes_eq}
-use Rattle.mum_policy.specs.Member.{actor_of}
+use Rattle.mum_policy.proofs.Common.{◌≡◌, ◌∙◌, List, ℕ, true, codes, ap, sym, bytes_eq, actor_of}
 use Rattle.mum_policy.proofs.Reading.{everybody_is_member}
 use Rattle.mum_policy.proofs.group.member_of.Goals as goal
 

@@ -1,8 +1,6 @@
-use Rattle.std.proofs.Common.{◌≡◌, ap, ◌∙◌}
-use Rattle.mum_policy.specs.Name.{Asks, Understood, understood_after}
-use Rattle.mum_policy.proofs.Reading.{read, read_negation, read_at_acl, read_no_prefix, read_end}
+use Rattle.mum_policy.proofs.Common.{◌≡◌, ap, ◌∙◌, Asks, Understood, understood_after}
+use Rattle.mum_policy.proofs.{Reading.read, Reading.read_negation, Reading.read_at_acl, Reading.read_no_prefix, Reading.read_end, name.understand.Goals.in-Some+else-prefix-eq33+else-prefix-eq126, name.understand.Goals.in_default}
 use Rattle.mum_policy.proofs.name.understand.Goals as goal
-use Rattle.mum_policy.proofs.name.understand.Goals.{in-Some+else-prefix-eq33+else-prefix-eq126, in_default}
 
 pub prefixes-preserved-then-prefix-eq33 : goal.prefixes-preserved-then-prefix-eq33
 prefixes-preserved-then-prefix-eq33 c = read_negation _ _ _ _ _ c.in-Some.ensures.cases.0 c.if-prefix-eq33.true ∙ c.prefixes.invariant

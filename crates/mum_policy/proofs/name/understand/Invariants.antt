@@ -1,5 +1,4 @@
-use Rattle.std.proofs.Common.{◌≡◌, length}
-use Rattle.mum_policy.specs.Name.{understood, understood_after}
+use Rattle.mum_policy.proofs.Common.{◌≡◌, length, understood, understood_after}
 use Rattle.mum_policy.proofs.name.understand.Given as goal
 
 abbrev pub invariant-prefixes : goal.invariant-prefixes

@@ -1,6 +1,4 @@
-use Rattle.std.proofs.Common.{ap}
-use Rattle.std.specs.Option.{option_copied}
-use Rattle.mum_policy.specs.Subtree.{list_of}
+use Rattle.mum_policy.proofs.Common.{ap, option_copied, list_of}
 use Rattle.mum_policy.proofs.Digits.{AreSteps, three_at_most, too_many_left}
 use Rattle.mum_policy.proofs.subtree.parse_span.Goals as goal
 

@@ -1,6 +1,4 @@
-use Rattle.std.proofs.Common.{◌≡◌, ℕ, ◌+◌, ◌-◌, List, ◌∷◌, length, take, drop, sym, ap, ◌∙◌, arith}
-use Rattle.std.proofs.lemmas.Grind.{common_steps}
-use Rattle.mum_policy.specs.Subtree.{is_comma, separated}
+use Rattle.mum_policy.proofs.Common.{◌≡◌, ℕ, ◌+◌, ◌-◌, List, ◌∷◌, length, take, drop, sym, ap, ◌∙◌, arith, common_steps, is_comma, separated}
 use Rattle.mum_policy.proofs.Digits.{split_nowhere, split_there}
 use Rattle.mum_policy.proofs.subtree.split_argument.Goals as goal
 

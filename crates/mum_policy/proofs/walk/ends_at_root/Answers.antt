@@ -1,4 +1,4 @@
-use Rattle.std.proofs.Common.{◌∙◌}
+use Rattle.mum_policy.proofs.Common.{◌∙◌}
 use Rattle.mum_policy.proofs.Paths.{is_root-last}
 use Rattle.mum_policy.proofs.walk.ends_at_root.Goals as goal
 

@@ -1,7 +1,6 @@
-use Rattle.std.proofs.Common.{◌∙◌, arith}
-use Rattle.mum_policy.proofs.Walks.{entries_as, entries_matched, entries_passed, entries_end}
+use Rattle.mum_policy.proofs.Common.{◌∙◌, arith}
+use Rattle.mum_policy.proofs.{Walks.entries_as, Walks.entries_matched, Walks.entries_passed, Walks.entries_end, walk.pass_channel.Goals.then-speaks_of, walk.pass_channel.Goals.else-speaks_of}
 use Rattle.mum_policy.proofs.walk.pass_channel.Goals as goal
-use Rattle.mum_policy.proofs.walk.pass_channel.Goals.{then-speaks_of, else-speaks_of}
 
 pub entries-preserved : goal.entries-preserved
 entries-preserved g c =

@@ -1,6 +1,4 @@
-use Rattle.std.proofs.Common.{◌≡◌, ◌+◌, drop}
-use Rattle.mum_policy.specs.Member.{actor_of}
-use Rattle.mum_policy.specs.Walk.{after_entries, matches}
+use Rattle.mum_policy.proofs.Common.{◌≡◌, ◌+◌, drop, actor_of, after_entries, matches}
 use Rattle.mum_policy.proofs.walk.pass_channel.Given as goal
 
 abbrev pub invariant-entries : goal.invariant-entries

@@ -1,5 +1,4 @@
-use Rattle.std.proofs.Common.{sym, ap, ◌∙◌}
-use Rattle.std.specs.Option.{option_copied}
+use Rattle.mum_policy.proofs.Common.{sym, ap, ◌∙◌, option_copied}
 use Rattle.mum_policy.proofs.Walks.{Passed, so_far_next, whole, whole_visits, ended, ended_visits, perm_super, perm_walked, visits_super, visits_walked}
 use Rattle.mum_policy.proofs.walk.permissions.Goals as goal
 

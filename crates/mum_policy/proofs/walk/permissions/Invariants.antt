@@ -1,4 +1,4 @@
-use Rattle.mum_policy.specs.Member.{actor_of}
+use Rattle.mum_policy.proofs.Common.{actor_of}
 use Rattle.mum_policy.proofs.Walks.{SoFar}
 use Rattle.mum_policy.proofs.walk.permissions.Given as goal
 

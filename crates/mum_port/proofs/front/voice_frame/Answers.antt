@@ -1,5 +1,4 @@
-use Rattle.std.proofs.Common.{refl}
-use Rattle.mum_frame.specs.Frame.{spelling_of}
+use Rattle.mum_port.proofs.Common.{refl, spelling_of}
 use Rattle.mum_port.proofs.front.voice_frame.Goals as goal
 
 pub returns : goal.returns

@@ -1,6 +1,4 @@
-use Rattle.std.proofs.Common.{◌<◌, [], ◌++◌, length, take, arith, ap, sym, refl}
-use Rattle.std.proofs.lemmas.List.{length-take-le}
-use Rattle.mum_io.proofs.CountLemmas.{CountsEnd-none_falls, NoneFalls-same}
+use Rattle.mum_port.proofs.Common.{◌<◌, [], ◌++◌, length, take, arith, ap, sym, refl, length-take-le, CountsEnd-none_falls, NoneFalls-same}
 use Rattle.mum_port.proofs.Links.{Keeps-consumes}
 use Rattle.mum_port.proofs.inbound.read.Goals as goal
 

@@ -1,11 +1,4 @@
-use Rattle.std.proofs.Common.{◌≡◌, ◌∙◌, ap, List, ℕ, [], ◌∷◌, ◌++◌, append_assoc, codes}
-use Rattle.std.proofs.lemmas.Result.{IfOk-weaker, on_ok_weaker}
-use Rattle.std.specs.Prelude.{string_bytes}
-use Rattle.std.specs.Fmt.{decimal}
-use Rattle.std.specs.List.{flat_map}
-use Rattle.mum_record.specs.Words.{line_of_words, behind_word}
-use Rattle.mum_record.specs.Grammar.{revision_word}
-use Rattle.mum_record.specs.Journal.{verdict_words, command_word, control_words}
+use Rattle.mum_record.proofs.Common.{◌≡◌, ◌∙◌, ap, List, ℕ, [], ◌∷◌, ◌++◌, append_assoc, codes, IfOk-weaker, on_ok_weaker, string_bytes, decimal, flat_map, line_of_words, behind_word, revision_word, verdict_words, command_word, control_words}
 use Rattle.mum_record.proofs.Appended.{line_and}
 use Rattle.mum_record.proofs.control.push_control.Goals as goal
 

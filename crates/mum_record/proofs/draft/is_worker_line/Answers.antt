@@ -1,4 +1,4 @@
-use Rattle.std.proofs.Common.{arith}
+use Rattle.mum_record.proofs.Common.{arith}
 use Rattle.mum_record.proofs.WorkerLine.{is_worker_line-named, is_worker_line-none}
 use Rattle.mum_record.proofs.draft.is_worker_line.Goals as goal
 

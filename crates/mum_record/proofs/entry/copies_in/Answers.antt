@@ -1,9 +1,4 @@
-use Rattle.std.proofs.Common.{◌≡◌, ◌∙◌, sym, ap, Some, None, ◌∷◌, List, ℕ}
-use Rattle.std.proofs.lemmas.Result.{err_from_is_err_and}
-use Rattle.std.specs.Option.{option_copied}
-use Rattle.std.specs.Result.{result_ok}
-use Rattle.mum_record.specs.Words.{words_after}
-use Rattle.mum_record.specs.JournalReading.{copy_of, copies_of}
+use Rattle.mum_record.proofs.Common.{◌≡◌, ◌∙◌, sym, ap, Some, None, ◌∷◌, List, ℕ, err_from_is_err_and, option_copied, result_ok, words_after, copy_of, copies_of}
 use Rattle.mum_record.proofs.Copies.{behind, none_yet, one_more, none_more, all_there, no_reading}
 use Rattle.mum_record.proofs.entry.copies_in.Goals as goal
 

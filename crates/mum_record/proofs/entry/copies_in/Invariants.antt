@@ -1,8 +1,4 @@
-use Rattle.std.proofs.Common.{◌≡◌, ◌++◌, List}
-use Rattle.std.specs.Option.{option_copied, option_map}
-use Rattle.mum_record.specs.Words.{words_after}
-use Rattle.mum_record.specs.JournalReading.{copies_of}
-use Rattle.mum_record.specs.declared.journal.Marked.{Marked}
+use Rattle.mum_record.proofs.Common.{◌≡◌, ◌++◌, List, option_copied, option_map, words_after, copies_of, Marked}
 use Rattle.mum_record.proofs.Copies.{size_after}
 use Rattle.mum_record.proofs.entry.copies_in.Given as goal
 

@@ -1,4 +1,4 @@
-use Rattle.std.proofs.Common.{◌∙◌, sym, ap, ◌∷◌, List, ℕ}
+use Rattle.mum_record.proofs.Common.{◌∙◌, sym, ap, ◌∷◌, List, ℕ}
 use Rattle.mum_record.proofs.Slashes.{copy_of-one, copy_of-two, copy_of-parts}
 use Rattle.mum_record.proofs.entry.copy_in.Goals as goal
 

@@ -1,5 +1,4 @@
-use Rattle.std.proofs.Common.{arith}
-use Rattle.std.proofs.lemmas.Grind.{common_steps}
+use Rattle.mum_record.proofs.Common.{arith, common_steps}
 use Rattle.mum_record.proofs.EntryLaws.{entry_of-cut}
 use Rattle.mum_record.proofs.entry.entry_in.Goals as goal
 

@@ -1,8 +1,6 @@
 -- One copy more.
-use Rattle.std.proofs.Common.{◌<◌, length, arith, string_bytes}
-use Rattle.mum_record.specs.Journal.{FitsCopy}
-use Rattle.mum_record.proofs.Appended.{copy_more}
-use Rattle.mum_record.proofs.Fits.{Each-more}
+use Rattle.mum_record.proofs.Common.{◌<◌, length, arith, string_bytes, FitsCopy}
+use Rattle.mum_record.proofs.{Appended.copy_more, Fits.Each-more}
 use Rattle.mum_record.proofs.entry.push_copies.Goals as goal
 
 pub loop-copy-preserved : goal.loop-copy-preserved

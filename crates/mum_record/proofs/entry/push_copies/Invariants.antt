@@ -1,7 +1,4 @@
-use Rattle.std.proofs.Common.{◌≡◌, ◌++◌, take}
-use Rattle.std.specs.Prelude.{string_bytes}
-use Rattle.std.specs.List.{flat_map}
-use Rattle.mum_record.specs.Journal.{behind_copy, Each, FitsCopy}
+use Rattle.mum_record.proofs.Common.{◌≡◌, ◌++◌, take, string_bytes, flat_map, behind_copy, Each, FitsCopy}
 use Rattle.mum_record.proofs.entry.push_copies.Given as goal
 
 abbrev pub invariant-loop-copy : goal.invariant-loop-copy

@@ -1,6 +1,4 @@
-use Rattle.std.proofs.lemmas.Grind.{common_steps}
-use Rattle.std.proofs.Common.{arith}
-use Rattle.mum_record.specs.Journal.{copy_word}
+use Rattle.mum_record.proofs.Common.{common_steps, arith, copy_word}
 use Rattle.mum_record.proofs.entry.push_copy.Goals as goal
 
 pub returns-clause-text : goal.returns-clause-text

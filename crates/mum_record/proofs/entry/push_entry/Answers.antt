@@ -1,4 +1,4 @@
-use Rattle.mum_record.specs.Journal.{entry_words}
+use Rattle.mum_record.proofs.Common.{entry_words}
 use Rattle.mum_record.proofs.entry.push_entry.Goals as goal
 
 pub returns-in-Closed-clause-text : goal.returns-in-Closed-clause-text

@@ -1,11 +1,4 @@
-use Rattle.std.proofs.Common.{◌≡◌, ◌∙◌, ap, List, ℕ, [], ◌∷◌, ◌++◌, map, length, append_assoc, arith, codes}
-use Rattle.std.proofs.lemmas.Result.{IfOk-weaker, on_ok_weaker}
-use Rattle.std.specs.Prelude.{string_bytes}
-use Rattle.std.specs.Fmt.{decimal}
-use Rattle.std.specs.List.{flat_map}
-use Rattle.hex.specs.Hex.{encode_lower}
-use Rattle.mum_record.specs.Words.{line_of_words}
-use Rattle.mum_record.specs.Journal.{copy_word, behind_copy, entry_words}
+use Rattle.mum_record.proofs.Common.{◌≡◌, ◌∙◌, ap, List, ℕ, [], ◌∷◌, ◌++◌, map, length, append_assoc, arith, codes, IfOk-weaker, on_ok_weaker, string_bytes, decimal, flat_map, encode_lower, line_of_words, copy_word, behind_copy, entry_words}
 use Rattle.mum_record.proofs.Appended.{line_and, copies_behind}
 use Rattle.mum_record.proofs.entry.push_voice.Goals as goal
 

@@ -1,4 +1,4 @@
-use Rattle.std.proofs.Common.{◌∙◌, sym, arith}
+use Rattle.mum_record.proofs.Common.{◌∙◌, sym, arith}
 use Rattle.mum_record.proofs.Numbers.{number_within-found}
 use Rattle.mum_record.proofs.head.limits_in.Goals as goal
 

@@ -1,5 +1,4 @@
-use Rattle.std.proofs.Common.{◌∙◌, sym, ap}
-use Rattle.mum_record.specs.Head.{IsLimitsLine, limits_of}
+use Rattle.mum_record.proofs.Common.{◌∙◌, sym, ap, IsLimitsLine, limits_of}
 use Rattle.mum_record.proofs.HeadLemmas.{limits_of-found, limits_of-line, limits_of-no_text, reads-some, reads-none}
 use Rattle.mum_record.proofs.head.read_limits.Goals as goal
 

@@ -1,5 +1,4 @@
-use Rattle.std.proofs.Common.{◌∙◌, sym, ap}
-use Rattle.mum_record.specs.Head.{IsWorkersLine, workers_of}
+use Rattle.mum_record.proofs.Common.{◌∙◌, sym, ap, IsWorkersLine, workers_of}
 use Rattle.mum_record.proofs.HeadLemmas.{workers_of-found, workers_of-line, workers_of-no_text, reads-some, reads-none}
 use Rattle.mum_record.proofs.head.read_workers.Goals as goal
 

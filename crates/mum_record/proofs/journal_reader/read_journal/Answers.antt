@@ -1,9 +1,5 @@
 -- Each line that is taken goes on, and each way out says what was read.
-use Rattle.std.proofs.Common.{◌≡◌, ◌∙◌, List, ℕ, Err, Result, refl, sym, subst, arith}
-use Rattle.mum_record.specs.declared.journal.Journal.{Journal}
-use Rattle.mum_record.specs.declared.journal.JournalFault.{JournalFault}
-use Rattle.mum_record.specs.JournalReading.{journal_of}
-use Rattle.mum_record.specs.JournalAnswers.{ReadsText, AnswersBy}
+use Rattle.mum_record.proofs.Common.{◌≡◌, ◌∙◌, List, ℕ, Err, Result, refl, sym, subst, arith, Journal, JournalFault, journal_of, ReadsText, AnswersBy}
 use Rattle.mum_record.proofs.TextLaws.{reads_on, reads_no_further, reads_to_end, answers-found, answers-fault}
 use Rattle.mum_record.proofs.journal_reader.read_journal.Goals as goal
 
@@ -34,12 +30,12 @@ returns-in-Err-clause-refused c = answers-fault c.args.text.now (Err c.fault_at.
 
 pub returns-clause-exact : goal.returns-clause-exact
 returns-clause-exact c =
-    stopped c.args.text.now _ c.ended.result (c.lines.invariant.reading ∙ reads_to_end c.lines.draft c.lines.number c.lines.rest.now c.in_default.ensures.lines) c.ended.ensures
+    stopped c.args.text.now _ c.ended.result (c.lines.invariant.reading ∙ reads_to_end c.lines.draft c.lines.number c.lines.rest.now c.in_default.ensures.lines) c.ended.ensures.answer
 
 pub returns-clause-found : goal.returns-clause-found
 returns-clause-found c = answers-found c.args.text.now c.ended.result
-    (stopped c.args.text.now _ c.ended.result (c.lines.invariant.reading ∙ reads_to_end c.lines.draft c.lines.number c.lines.rest.now c.in_default.ensures.lines) c.ended.ensures)
+    (stopped c.args.text.now _ c.ended.result (c.lines.invariant.reading ∙ reads_to_end c.lines.draft c.lines.number c.lines.rest.now c.in_default.ensures.lines) c.ended.ensures.answer)
 
 pub returns-clause-refused : goal.returns-clause-refused
 returns-clause-refused c = answers-fault c.args.text.now c.ended.result
-    (stopped c.args.text.now _ c.ended.result (c.lines.invariant.reading ∙ reads_to_end c.lines.draft c.lines.number c.lines.rest.now c.in_default.ensures.lines) c.ended.ensures)
+    (stopped c.args.text.now _ c.ended.result (c.lines.invariant.reading ∙ reads_to_end c.lines.draft c.lines.number c.lines.rest.now c.in_default.ensures.lines) c.ended.ensures.answer)

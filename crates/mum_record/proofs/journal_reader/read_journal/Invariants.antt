@@ -1,5 +1,4 @@
-use Rattle.std.proofs.Common.{◌≡◌, ◌+◌, ◌≤◌, length}
-use Rattle.mum_record.specs.JournalReading.{journal_of, reading_from, pieces_of}
+use Rattle.mum_record.proofs.Common.{◌≡◌, ◌+◌, ◌≤◌, length, journal_of, reading_from, pieces_of}
 use Rattle.mum_record.proofs.journal_reader.read_journal.Given as goal
 
 abbrev pub invariant-lines : goal.invariant-lines

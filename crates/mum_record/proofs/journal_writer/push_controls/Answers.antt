@@ -1,8 +1,6 @@
 -- One line more.
-use Rattle.std.proofs.Common.{◌<◌, length, arith, string_bytes}
-use Rattle.mum_record.specs.Journal.{control_line, FitsControl}
-use Rattle.mum_record.proofs.Fits.{Each-read}
-use Rattle.mum_record.proofs.Written.{line_more}
+use Rattle.mum_record.proofs.Common.{◌<◌, length, arith, string_bytes, control_line, FitsControl}
+use Rattle.mum_record.proofs.{Fits.Each-read, Written.line_more}
 use Rattle.mum_record.proofs.journal_writer.push_controls.Goals as goal
 
 pub loop-entry-preserved : goal.loop-entry-preserved

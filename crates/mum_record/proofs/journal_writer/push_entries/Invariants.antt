@@ -1,6 +1,4 @@
-use Rattle.std.proofs.Common.{◌≡◌, ◌++◌, map, take}
-use Rattle.std.specs.Prelude.{string_bytes}
-use Rattle.mum_record.specs.Journal.{entry_line, ended_lines, Each, FitsEntry}
+use Rattle.mum_record.proofs.Common.{◌≡◌, ◌++◌, map, take, string_bytes, entry_line, ended_lines, Each, FitsEntry}
 use Rattle.mum_record.proofs.journal_writer.push_entries.Given as goal
 
 abbrev pub invariant-loop-entry : goal.invariant-loop-entry

@@ -1,10 +1,6 @@
 -- The lines of the head, one after another.
-use Rattle.std.proofs.Common.{◌≡◌, ◌++◌, arith, string_bytes}
-use Rattle.std.proofs.lemmas.Result.{IfOk-weaker}
-use Rattle.hex.specs.Hex.{IsBytes}
-use Rattle.mum_record.specs.Head.{journal_line, version_with, workers_line, limits_lines, config_line}
-use Rattle.mum_record.proofs.Fits.{OnOk-from}
-use Rattle.mum_record.proofs.Written.{appended, head_text}
+use Rattle.mum_record.proofs.Common.{◌≡◌, ◌++◌, arith, string_bytes, IfOk-weaker, IsBytes, journal_line, version_with, workers_line, limits_lines, config_line}
+use Rattle.mum_record.proofs.{Fits.OnOk-from, Written.appended, Written.head_text}
 use Rattle.mum_record.proofs.journal_writer.push_head.Goals as goal
 
 pub returns-clause-text : goal.returns-clause-text

@@ -1,9 +1,6 @@
 -- The lines of one worker more.
-use Rattle.std.proofs.Common.{◌≡◌, ◌<◌, ◌++◌, map, length, sym, arith, string_bytes}
-use Rattle.std.proofs.lemmas.List.{append-nil}
-use Rattle.mum_record.specs.Journal.{entry_line, lines_from, ended_lines, Each, FitsEntry}
-use Rattle.mum_record.proofs.Fits.{Each-read}
-use Rattle.mum_record.proofs.Written.{worker_more}
+use Rattle.mum_record.proofs.Common.{◌≡◌, ◌<◌, ◌++◌, map, length, sym, arith, string_bytes, append-nil, entry_line, lines_from, ended_lines, Each, FitsEntry}
+use Rattle.mum_record.proofs.{Fits.Each-read, Written.worker_more}
 use Rattle.mum_record.proofs.journal_writer.push_workers.Goals as goal
 
 pub loop-number-init : goal.loop-number-init

@@ -1,6 +1,4 @@
-use Rattle.std.proofs.Common.{◌≡◌, ◌++◌, take}
-use Rattle.std.specs.Prelude.{string_bytes}
-use Rattle.mum_record.specs.Journal.{lines_from, ended_lines, Each, FitsEntry}
+use Rattle.mum_record.proofs.Common.{◌≡◌, ◌++◌, take, string_bytes, lines_from, ended_lines, Each, FitsEntry}
 use Rattle.mum_record.proofs.journal_writer.push_workers.Given as goal
 
 abbrev pub invariant-loop-number : goal.invariant-loop-number

@@ -1,9 +1,5 @@
-use Rattle.std.proofs.Common.{◌≡◌, arith}
-use Rattle.std.proofs.lemmas.Grind.{common_steps}
-use Rattle.hex.specs.Hex.{IsBytes}
-use Rattle.mum_record.specs.Journal.{lines_of, ended_lines, Each, FitsControl, FitsEntry}
-use Rattle.mum_record.proofs.Fits.{journal_fits}
-use Rattle.mum_record.proofs.Written.{whole_text, back}
+use Rattle.mum_record.proofs.Common.{◌≡◌, arith, common_steps, IsBytes, lines_of, ended_lines, Each, FitsControl, FitsEntry}
+use Rattle.mum_record.proofs.{Fits.journal_fits, Written.whole_text, Written.back}
 use Rattle.mum_record.proofs.journal_writer.write_journal.Goals as goal
 
 pub returns-clause-written : goal.returns-clause-written

@@ -1,4 +1,4 @@
-use Rattle.std.proofs.Common.{arith}
+use Rattle.mum_record.proofs.Common.{arith}
 use Rattle.mum_record.proofs.line.digits_word.Goals as goal
 
 pub returns-clause-fits : goal.returns-clause-fits

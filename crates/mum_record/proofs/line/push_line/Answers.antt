@@ -1,8 +1,4 @@
-use Rattle.std.proofs.Common.{◌≡◌, ◌∙◌, sym, ap, List, ℕ, ◌++◌, append_assoc}
-use Rattle.std.proofs.lemmas.Result.{IfOk-weaker}
-use Rattle.std.specs.Prelude.{string_bytes}
-use Rattle.std.specs.List.{flat_map}
-use Rattle.mum_record.specs.Words.{behind_space}
+use Rattle.mum_record.proofs.Common.{◌≡◌, ◌∙◌, sym, ap, List, ℕ, ◌++◌, append_assoc, IfOk-weaker, string_bytes, flat_map, behind_space}
 use Rattle.mum_record.proofs.Splits.{line_of_words-first}
 use Rattle.mum_record.proofs.line.push_line.Goals as goal
 

@@ -1,4 +1,4 @@
-use Rattle.std.proofs.Common.{sym, ◌∙◌, ap, Some}
+use Rattle.mum_record.proofs.Common.{sym, ◌∙◌, ap, Some}
 use Rattle.mum_record.proofs.Frames.{frame_of-decodes}
 use Rattle.mum_record.proofs.read.frame_in.Goals as goal
 

@@ -1,6 +1,4 @@
-use Rattle.std.proofs.Common.{◌≡◌, ◌∙◌, sym, arith}
-use Rattle.std.proofs.lemmas.Bool.Decides.{nat_tests}
-use Rattle.mum_frame.specs.Frame.{named_length}
+use Rattle.mum_record.proofs.Common.{◌≡◌, ◌∙◌, sym, arith, nat_tests, named_length}
 use Rattle.mum_record.proofs.Frames.{TestsFrame-cut, TestsFrame-no_header, TestsFrame-named, named_length-read}
 use Rattle.mum_record.proofs.read.has_named_length.Goals as goal
 

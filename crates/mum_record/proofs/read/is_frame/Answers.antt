@@ -1,4 +1,4 @@
-use Rattle.std.proofs.Common.{◌∙◌, sym}
+use Rattle.mum_record.proofs.Common.{◌∙◌, sym}
 use Rattle.mum_record.proofs.Frames.{tested-digits, tested-other}
 use Rattle.mum_record.proofs.read.is_frame.Goals as goal
 

@@ -1,8 +1,5 @@
--- The lines are those before and behind the first line feed, or there is none.
-use Rattle.std.proofs.Common.{◌≡◌, ℕ, ◌+◌, ◌-◌, List, ◌∷◌, length, take, drop, sym, ap, ◌∙◌, arith}
-use Rattle.std.specs.List.{slice_split}
-use Rattle.std.proofs.lemmas.Grind.{common_steps}
-use Rattle.mum_record.specs.Lines.{is_line_feed}
+-- The lines are those before and after the first line feed, or there is none.
+use Rattle.mum_record.proofs.Common.{◌≡◌, ℕ, ◌+◌, ◌-◌, List, ◌∷◌, length, take, drop, sym, ap, ◌∙◌, arith, slice_split, common_steps, is_line_feed}
 use Rattle.mum_record.proofs.LineFeeds.{split_at, split_nowhere}
 use Rattle.mum_record.proofs.split.split_line.Goals as goal
 

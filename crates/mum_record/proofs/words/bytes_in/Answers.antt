@@ -1,4 +1,4 @@
-use Rattle.std.proofs.Common.{sym, ◌∙◌, ap, Some}
+use Rattle.mum_record.proofs.Common.{sym, ◌∙◌, ap, Some}
 use Rattle.mum_record.proofs.EntryLaws.{bytes_of-decodes}
 use Rattle.mum_record.proofs.words.bytes_in.Goals as goal
 

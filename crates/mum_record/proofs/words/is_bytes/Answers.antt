@@ -1,5 +1,4 @@
-use Rattle.std.proofs.Common.{◌≡◌, sym, arith, ◌<◌, ◌%◌, length}
-use Rattle.std.proofs.lemmas.Bool.Decides.{nat_tests}
+use Rattle.mum_record.proofs.Common.{◌≡◌, sym, arith, ◌<◌, ◌%◌, length, nat_tests}
 use Rattle.mum_record.proofs.EntryLaws.{bytes_of-none, bytes_of-tested}
 use Rattle.mum_record.proofs.words.is_bytes.Goals as goal
 

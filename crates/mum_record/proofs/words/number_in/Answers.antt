@@ -1,5 +1,4 @@
-use Rattle.std.proofs.Common.{◌∙◌}
-use Rattle.std.proofs.lemmas.Bool.{iff_false}
+use Rattle.mum_record.proofs.Common.{◌∙◌, iff_false}
 use Rattle.mum_record.proofs.Numbers.{revision_of-parsed, revision_of-other}
 use Rattle.mum_record.proofs.words.number_in.Goals as goal
 

@@ -1,9 +1,6 @@
-use Rattle.std.proofs.Common.{◌≡◌, ◌<◌, ◌^◌, ◌∙◌, sym, arith, inl, inr, None, Some}
-use Rattle.std.specs.Prelude.{◌⊎◌}
-use Rattle.mum_record.specs.Words.{revision_of}
-use Rattle.mum_record.proofs.Numbers.{number_within-none, number_within-outside, number_within-narrow}
+use Rattle.mum_record.proofs.Common.{◌≡◌, ◌<◌, ◌^◌, ◌∙◌, sym, arith, inl, inr, None, Some, ◌⊎◌, revision_of}
+use Rattle.mum_record.proofs.{Numbers.number_within-none, Numbers.number_within-outside, Numbers.number_within-narrow, words.number_within.Goals.then-number-least-via-then-number-least, words.number_within.Goals.then-number-least-via-else-number-least+then-number-greatest}
 use Rattle.mum_record.proofs.words.number_within.Goals as goal
-use Rattle.mum_record.proofs.words.number_within.Goals.{then-number-least-via-then-number-least, then-number-least-via-else-number-least+then-number-greatest}
 
 pub returns-in_err-number : goal.returns-in_err-number
 returns-in_err-number c =

@@ -1,7 +1,4 @@
-use Rattle.std.proofs.Common.{◌≡◌, ◌∙◌, sym, ap, List, ℕ, [], ◌∷◌}
-use Rattle.std.proofs.lemmas.List.Splits.{join_with_byte-slice_split}
-use Rattle.std.specs.List.{join_with_byte}
-use Rattle.mum_record.specs.Words.{words_in}
+use Rattle.mum_record.proofs.Common.{◌≡◌, ◌∙◌, sym, ap, List, ℕ, [], ◌∷◌, join_with_byte-slice_split, join_with_byte, words_in}
 use Rattle.mum_record.proofs.words.split_word.Goals as goal
 
 -- a line of one word is that word

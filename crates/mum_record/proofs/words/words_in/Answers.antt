@@ -1,6 +1,4 @@
-use Rattle.std.proofs.Common.{arith}
-use Rattle.std.proofs.lemmas.List.Splits.{length-slice_split}
-use Rattle.mum_record.specs.Words.{is_space}
+use Rattle.mum_record.proofs.Common.{arith, length-slice_split, is_space}
 use Rattle.mum_record.proofs.words.words_in.Goals as goal
 
 pub returns-in_default-Some : goal.returns-in_default-Some

@@ -1,6 +1,4 @@
-use Rattle.std.proofs.Common.{◌^◌, ◌<◌, arith, rules}
-use Rattle.hex.specs.Hex.{IsBytes}
-use Rattle.mum_record.specs.Grammar.{FitsTypes}
+use Rattle.mum_record.proofs.Common.{◌^◌, ◌<◌, arith, rules, IsBytes, FitsTypes}
 use Rattle.mum_record.proofs.Fits.{OnOk-from}
 use Rattle.mum_record.proofs.write.text_of.Goals as goal
 

@@ -1,7 +1,4 @@
-use Rattle.std.proofs.Common.{◌≡◌, ◌∙◌, ap, arith}
-use Rattle.std.proofs.lemmas.Grind.{common_steps}
-use Rattle.mum_record.specs.Grammar.{line_of}
-use Rattle.mum_record.specs.Reading.{step_of}
+use Rattle.mum_record.proofs.Common.{◌≡◌, ◌∙◌, ap, arith, common_steps, line_of, step_of}
 use Rattle.mum_record.proofs.Laws.{step_of-line_of}
 use Rattle.mum_record.proofs.write.write_step.Goals as goal
 

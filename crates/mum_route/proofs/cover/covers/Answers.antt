@@ -1,6 +1,4 @@
-use Rattle.std.proofs.Common.{◌∙◌, ◌&&◌, false, true, Bool, ap, sym}
-use Rattle.mum_route.specs.Aims.{aimed}
-use Rattle.mum_route.specs.Hearing.{may}
+use Rattle.mum_route.proofs.Common.{◌∙◌, ◌&&◌, false, true, Bool, ap, sym, aimed, may}
 use Rattle.mum_route.proofs.Among.{among-covered, reached_in}
 use Rattle.mum_route.proofs.cover.covers.Goals as goal
 

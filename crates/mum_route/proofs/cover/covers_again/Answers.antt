@@ -1,6 +1,4 @@
-use Rattle.std.proofs.Common.{◌∙◌, ℕ, Some, ap, subst}
-use Rattle.mum_base.specs.Channels.{is_among}
-use Rattle.mum_route.specs.Aims.{aimed, covered, IsAnswered}
+use Rattle.mum_route.proofs.Common.{◌∙◌, ℕ, Some, ap, subst, is_among, aimed, covered, IsAnswered}
 use Rattle.mum_route.proofs.cover.covers_again.Goals as goal
 
 pub returns-then-answer-channel-clause-value : goal.returns-then-answer-channel-clause-value

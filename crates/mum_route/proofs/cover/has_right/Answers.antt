@@ -1,4 +1,4 @@
-use Rattle.std.proofs.Common.{◌<◌, length, arith}
+use Rattle.mum_route.proofs.Common.{◌<◌, length, arith}
 use Rattle.mum_route.proofs.Known.{known_at, known_set, place_within, placed_in}
 use Rattle.mum_route.proofs.cover.has_right.Goals as goal
 

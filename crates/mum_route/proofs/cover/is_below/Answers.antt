@@ -1,4 +1,4 @@
-use Rattle.std.proofs.Common.{◌∙◌}
+use Rattle.mum_route.proofs.Common.{◌∙◌}
 use Rattle.mum_route.proofs.Among.{among-below}
 use Rattle.mum_route.proofs.cover.is_below.Goals as goal
 

@@ -1,20 +1,5 @@
-use Rattle.std.proofs.Common.{◌≡◌, ◌≢◌, ◌∙◌, ℕ, Bool, true, false, cond, List, Some, None, ap, sym, subst}
-use Rattle.std.specs.List.{Contains}
-use Rattle.std.proofs.lemmas.Bool.{ne_eqb}
-use Rattle.std.proofs.lemmas.Option.{same_Some}
-use Rattle.mum_base.specs.declared.number.SessionId.{SessionId}
-use Rattle.mum_users.specs.Sessions.{session_of}
-use Rattle.mum_users.specs.declared.user.User.{User}
-use Rattle.mum_state.specs.State.{StateValue}
-use Rattle.mum_route.specs.declared.context.Context.{Context}
-use Rattle.mum_route.specs.declared.routes.TheConstants.{LOOPBACK}
-use Rattle.mum_route.specs.Aims.{heard_as}
-use Rattle.mum_route.specs.Context.{code}
-use Rattle.mum_route.specs.Hearing.{can_hear, is_silent}
-use Rattle.mum_route.specs.Laws.{IsItemContext, IsTalkContext}
-use Rattle.mum_route.specs.Route.{Member, by_items, by_talk, context_of, items_of, member_by, route}
-use Rattle.mum_route.proofs.Hearers.{each_hearing, found_number, found_own, members_contain, route_of_heard}
-use Rattle.mum_route.proofs.Relations.{item_context, item_reached, talk_context, talk_reached}
+use Rattle.mum_route.proofs.Common.{◌≡◌, ◌≢◌, ◌∙◌, ℕ, Bool, true, false, cond, List, Some, None, ap, sym, subst, Contains, ne_eqb, same_Some, SessionId, session_of, User, StateValue, Context, LOOPBACK, heard_as, code, can_hear, is_silent, IsItemContext, IsTalkContext, Member, by_items, by_talk, context_of, items_of, member_by, route}
+use Rattle.mum_route.proofs.{Hearers.each_hearing, Hearers.found_number, Hearers.found_own, Hearers.members_contain, Hearers.route_of_heard, Relations.item_context, Relations.item_reached, Relations.talk_context, Relations.talk_reached}
 use Rattle.mum_route.proofs.laws.contexts_by_precedence.Goals as goal
 
 -- one session has one row

@@ -1,24 +1,5 @@
-use Rattle.std.proofs.Common.{◌≡◌, ◌≢◌, ◌∙◌, ℕ, List, ◌⊎◌, inl, inr, Bool, true, cond, Some, refl, ap, sym, subst, ⊎_elim}
-use Rattle.std.specs.Prelude.{IsTrue}
-use Rattle.std.specs.List.{Contains}
-use Rattle.std.proofs.lemmas.Bool.{cases_eq, ne_eqb}
-use Rattle.mum_base.specs.declared.number.ChannelId.{ChannelId}
-use Rattle.mum_base.specs.declared.number.SessionId.{SessionId}
-use Rattle.mum_base.specs.declared.perm.Perm.{Perm}
-use Rattle.mum_base.specs.declared.perm.TheConstants.Perm.{SPEAK, WHISPER}
-use Rattle.mum_tree.specs.Walks.{linked}
-use Rattle.mum_users.specs.Sessions.{session_of}
-use Rattle.mum_users.specs.declared.target.TargetItem.{TargetItem}
-use Rattle.mum_users.specs.declared.user.User.{User}
-use Rattle.mum_state.specs.State.{StateValue}
-use Rattle.mum_route.specs.declared.context.Context.{Context}
-use Rattle.mum_route.specs.Context.{code}
-use Rattle.mum_route.specs.Cover.{talk}
-use Rattle.mum_route.specs.Hearing.{may}
-use Rattle.mum_route.specs.Laws.{IsItemContext, IsTalkContext, Listens, needed_for}
-use Rattle.mum_route.specs.Route.{by_items, by_talk, context_of, items_of}
-use Rattle.mum_route.proofs.Hearers.{IsHearing, each_hearing, found_number, found_own}
-use Rattle.mum_route.proofs.Relations.{cover_allowed, item_context, kept_from, talk_context}
+use Rattle.mum_route.proofs.Common.{◌≡◌, ◌≢◌, ◌∙◌, ℕ, List, ◌⊎◌, inl, inr, Bool, true, cond, Some, refl, ap, sym, subst, ⊎_elim, IsTrue, Contains, cases_eq, ne_eqb, ChannelId, SessionId, Perm, SPEAK, WHISPER, linked, session_of, TargetItem, User, StateValue, Context, code, talk, may, IsItemContext, IsTalkContext, Listens, needed_for, by_items, by_talk, context_of, items_of}
+use Rattle.mum_route.proofs.{Hearers.IsHearing, Hearers.each_hearing, Hearers.found_number, Hearers.found_own, Relations.cover_allowed, Relations.item_context, Relations.kept_from, Relations.talk_context}
 use Rattle.mum_route.proofs.laws.heard_only_where_allowed.Goals as goal
 
 -- a channel where the speaker has the permission, in which the session is or to which it listens

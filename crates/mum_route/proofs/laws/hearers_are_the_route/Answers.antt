@@ -1,8 +1,4 @@
-use Rattle.std.proofs.Common.{◌≡◌, Some, refl}
-use Rattle.std.proofs.lemmas.List.Elements.{All-from_recursion}
-use Rattle.mum_users.specs.declared.user.User.{User}
-use Rattle.mum_users.specs.Sessions.{session_of}
-use Rattle.mum_route.specs.Hearers.{hearers_at}
+use Rattle.mum_route.proofs.Common.{◌≡◌, Some, refl, All-from_recursion, User, session_of, hearers_at}
 use Rattle.mum_route.proofs.Seated.{each_hearer, hearers_are}
 use Rattle.mum_route.proofs.laws.hearers_are_the_route.Goals as goal
 

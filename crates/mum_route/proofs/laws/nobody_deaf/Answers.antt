@@ -1,8 +1,4 @@
-use Rattle.std.proofs.Common.{◌≡◌, Some, false}
-use Rattle.std.proofs.lemmas.Bool.{and_parts, not-true}
-use Rattle.mum_users.specs.Sessions.{session_of}
-use Rattle.mum_users.specs.declared.user.User.{User}
-use Rattle.mum_route.specs.Hearing.{is_deaf}
+use Rattle.mum_route.proofs.Common.{◌≡◌, Some, false, and_parts, not-true, session_of, User, is_deaf}
 use Rattle.mum_route.proofs.Hearers.{each_hearing, found_own}
 use Rattle.mum_route.proofs.laws.nobody_deaf.Goals as goal
 

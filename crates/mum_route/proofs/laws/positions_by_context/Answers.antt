@@ -1,15 +1,5 @@
-use Rattle.std.proofs.Common.{◌≡◌, ◌≢◌, ◌∙◌, ℕ, Bool, true, false, List, [], ◌++◌, bytes_eq, Option, Some, refl, sym, ap, append_assoc}
-use Rattle.std.specs.Prelude.{if◌then◌else◌}
-use Rattle.std.proofs.lemmas.List.{append-nil}
-use Rattle.std.proofs.lemmas.List.Elements.{All-from_recursion}
-use Rattle.std.proofs.lemmas.Option.{same_Some}
-use Rattle.mum_base.specs.declared.number.SessionId.{SessionId}
-use Rattle.mum_users.specs.declared.user.User.{User}
-use Rattle.mum_users.specs.Sessions.{session_of}
-use Rattle.mum_route.specs.Hearers.{hearers_at, shares}
-use Rattle.mum_route.specs.Laws.{HasPositionBy}
-use Rattle.mum_route.proofs.Positioned.{has_position_by}
-use Rattle.mum_route.proofs.Seated.{each_hearer, seated}
+use Rattle.mum_route.proofs.Common.{◌≡◌, ◌≢◌, ◌∙◌, ℕ, Bool, true, false, List, [], ◌++◌, bytes_eq, Option, Some, refl, sym, ap, append_assoc, if◌then◌else◌, append-nil, All-from_recursion, same_Some, SessionId, User, session_of, hearers_at, shares, HasPositionBy}
+use Rattle.mum_route.proofs.{Positioned.has_position_by, Seated.each_hearer, Seated.seated}
 use Rattle.mum_route.proofs.laws.positions_by_context.Goals as goal
 
 pub returns : goal.returns

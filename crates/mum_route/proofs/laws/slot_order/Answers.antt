@@ -1,8 +1,4 @@
-use Rattle.std.proofs.Common.{◌≡◌, ◌∙◌, ap, arith, sym}
-use Rattle.std.proofs.lemmas.Option.{same_Some}
-use Rattle.mum_users.specs.Sessions.{session_of}
-use Rattle.mum_users.specs.declared.user.User.{User}
-use Rattle.mum_route.specs.Laws.{IsInLowerSlot}
+use Rattle.mum_route.proofs.Common.{◌≡◌, ◌∙◌, ap, arith, sym, same_Some, session_of, User, IsInLowerSlot}
 use Rattle.mum_route.proofs.Hearers.{found_own, pairs_hearing}
 use Rattle.mum_route.proofs.laws.slot_order.Goals as goal
 

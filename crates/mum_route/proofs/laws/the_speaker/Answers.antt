@@ -1,8 +1,4 @@
-use Rattle.std.proofs.Common.{◌≢◌, ◌∙◌, [], ◌∷◌, ap, sym}
-use Rattle.std.proofs.lemmas.Bool.{and_parts, eq-eqb, not-true, false≢true}
-use Rattle.mum_base.specs.declared.number.SessionId.{SessionId}
-use Rattle.mum_users.specs.State.{has_number}
-use Rattle.mum_route.specs.Route.{Member}
+use Rattle.mum_route.proofs.Common.{◌≢◌, ◌∙◌, [], ◌∷◌, ap, sym, and_parts, eq-eqb, not-true, false≢true, SessionId, has_number, Member}
 use Rattle.mum_route.proofs.Hearers.{each_hearing, found_number, route_of_loopback}
 use Rattle.mum_route.proofs.laws.the_speaker.Goals as goal
 

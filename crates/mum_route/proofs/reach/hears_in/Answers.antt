@@ -1,6 +1,4 @@
-use Rattle.std.proofs.Common.{◌∙◌, sym}
-use Rattle.mum_base.specs.declared.perm.TheConstants.Perm.{LISTEN}
-use Rattle.mum_route.specs.Hearing.{may}
+use Rattle.mum_route.proofs.Common.{◌∙◌, sym, LISTEN, may}
 use Rattle.mum_route.proofs.Present.{third_of}
 use Rattle.mum_route.proofs.reach.hears_in.Goals as goal
 

@@ -1,4 +1,4 @@
-use Rattle.std.proofs.Common.{refl}
+use Rattle.mum_route.proofs.Common.{refl}
 use Rattle.mum_route.proofs.Present.{listened_there}
 use Rattle.mum_route.proofs.reach.hears_in_one.Goals as goal
 

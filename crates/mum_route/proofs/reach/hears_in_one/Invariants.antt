@@ -1,9 +1,4 @@
-use Rattle.std.proofs.Common.{◌≡◌, ◌&&◌, false, take}
-use Rattle.std.specs.List.{list_any}
-use Rattle.mum_base.specs.Channels.{is_among}
-use Rattle.mum_base.specs.declared.perm.TheConstants.Perm.{LISTEN}
-use Rattle.mum_route.specs.Aims.{aimed, covered, AreKnown}
-use Rattle.mum_route.specs.Hearing.{is_in_group, may}
+use Rattle.mum_route.proofs.Common.{◌≡◌, ◌&&◌, false, take, list_any, is_among, LISTEN, aimed, covered, AreKnown, is_in_group, may}
 use Rattle.mum_route.proofs.reach.hears_in_one.Given as goal
 
 abbrev pub invariant-loop-pair : goal.invariant-loop-pair

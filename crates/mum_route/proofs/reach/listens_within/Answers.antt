@@ -1,6 +1,4 @@
-use Rattle.std.proofs.Common.{◌∙◌, ap, sym}
-use Rattle.mum_users.specs.Listeners.{pairs_of}
-use Rattle.mum_users.specs.State.{RosterState}
+use Rattle.mum_route.proofs.Common.{◌∙◌, ap, sym, pairs_of, RosterState}
 use Rattle.mum_route.proofs.Present.{nobody_listens}
 use Rattle.mum_route.proofs.reach.listens_within.Goals as goal
 

@@ -1,9 +1,5 @@
-use Rattle.std.proofs.Common.{◌≡◌, ◌<◌, ◌∙◌, List, length, get_or, refl, arith, ap, sym}
-use Rattle.mum_users.specs.State.{RosterState}
-use Rattle.mum_users.specs.declared.user.User.{User}
-use Rattle.mum_route.proofs.Filled.{filled_more}
-use Rattle.mum_route.proofs.Hearers.{found_own}
-use Rattle.mum_route.proofs.Present.{few_sessions}
+use Rattle.mum_route.proofs.Common.{◌≡◌, ◌<◌, ◌∙◌, List, length, get_or, refl, arith, ap, sym, RosterState, User}
+use Rattle.mum_route.proofs.{Filled.filled_more, Hearers.found_own, Present.few_sessions}
 use Rattle.mum_route.proofs.reach.pass_aim.Goals as goal
 
 pub bounds-reached-i : goal.bounds-reached-i

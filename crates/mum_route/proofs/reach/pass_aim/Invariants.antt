@@ -1,5 +1,4 @@
-use Rattle.mum_route.specs.Aims.{aimed, heard_by, AreKnown, IsAnswered}
-use Rattle.mum_route.specs.Context.{first_of}
+use Rattle.mum_route.proofs.Common.{aimed, heard_by, AreKnown, IsAnswered, first_of}
 use Rattle.mum_route.proofs.Filled.{AreFilled}
 use Rattle.mum_route.proofs.reach.pass_aim.Given as goal
 

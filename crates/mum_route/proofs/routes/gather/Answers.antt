@@ -1,5 +1,4 @@
-use Rattle.std.proofs.Common.{◌∙◌, [], ◌∷◌, None, length, get_or, ap, arith, length-append}
-use Rattle.mum_route.specs.Aims.{heard_of}
+use Rattle.mum_route.proofs.Common.{◌∙◌, [], ◌∷◌, None, length, get_or, ap, arith, length-append, heard_of}
 use Rattle.mum_route.proofs.Gathered.{gathered_more, one_heard}
 use Rattle.mum_route.proofs.routes.gather.Goals as goal
 

@@ -1,5 +1,4 @@
-use Rattle.std.proofs.Common.{◌≡◌, ◌≤◌, length, take}
-use Rattle.mum_route.specs.Aims.{heard_of}
+use Rattle.mum_route.proofs.Common.{◌≡◌, ◌≤◌, length, take, heard_of}
 use Rattle.mum_route.proofs.routes.gather.Given as goal
 
 abbrev pub invariant-loop-i : goal.invariant-loop-i

@@ -1,10 +1,5 @@
-use Rattle.std.proofs.Common.{◌≡◌, ◌<◌, ◌∙◌, List, length, get_or, ap, arith, subst, sym}
-use Rattle.mum_users.specs.State.{RosterState}
-use Rattle.mum_users.specs.declared.user.User.{User}
-use Rattle.mum_route.specs.Aims.{heard_of}
-use Rattle.mum_route.proofs.Present.{few_sessions}
-use Rattle.mum_route.proofs.Slots.{slots_below}
-use Rattle.mum_route.proofs.Told.{gathered_hearers, gathered_members}
+use Rattle.mum_route.proofs.Common.{◌≡◌, ◌<◌, ◌∙◌, List, length, get_or, ap, arith, subst, sym, RosterState, User, heard_of}
+use Rattle.mum_route.proofs.{Present.few_sessions, Slots.slots_below, Told.gathered_hearers, Told.gathered_members}
 use Rattle.mum_route.proofs.routes.hear_from.Goals as goal
 
 pub gather-requires-clause-few : goal.gather-requires-clause-few

@@ -1,11 +1,5 @@
-use Rattle.std.proofs.Common.{◌≡◌, ◌<◌, ◌∙◌, List, length, get_or, map, ap, arith, subst, sym}
-use Rattle.mum_users.specs.State.{RosterState}
-use Rattle.mum_users.specs.declared.user.User.{User}
-use Rattle.mum_route.specs.Aims.{heard_of}
-use Rattle.mum_route.specs.Hearers.{member_of}
-use Rattle.mum_route.proofs.Present.{few_sessions}
-use Rattle.mum_route.proofs.Spoken.{gathered_as_hearers, gathered_as_members}
-use Rattle.mum_route.proofs.Slots.{slots_below}
+use Rattle.mum_route.proofs.Common.{◌≡◌, ◌<◌, ◌∙◌, List, length, get_or, map, ap, arith, subst, sym, RosterState, User, heard_of, member_of}
+use Rattle.mum_route.proofs.{Present.few_sessions, Spoken.gathered_as_hearers, Spoken.gathered_as_members, Slots.slots_below}
 use Rattle.mum_route.proofs.routes.hear_reached.Goals as goal
 
 pub gather-requires-clause-few : goal.gather-requires-clause-few

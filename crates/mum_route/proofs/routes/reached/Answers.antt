@@ -1,6 +1,5 @@
-use Rattle.std.proofs.Common.{◌∙◌, arith, sym}
-use Rattle.mum_route.proofs.Present.{few_sessions}
-use Rattle.mum_route.proofs.Spoken.{members_reached, silent_reaches}
+use Rattle.mum_route.proofs.Common.{◌∙◌, arith, sym}
+use Rattle.mum_route.proofs.{Present.few_sessions, Spoken.members_reached, Spoken.silent_reaches}
 use Rattle.mum_route.proofs.routes.reached.Goals as goal
 
 pub returns-then-is_silent-clause-members : goal.returns-then-is_silent-clause-members

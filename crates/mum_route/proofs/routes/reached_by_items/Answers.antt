@@ -1,5 +1,4 @@
-use Rattle.std.proofs.Common.{get_or, arith, subst}
-use Rattle.mum_route.specs.Aims.{Aimed, AreKnown}
+use Rattle.mum_route.proofs.Common.{get_or, arith, subst, Aimed, AreKnown}
 use Rattle.mum_route.proofs.Aimed.{item_heard}
 use Rattle.mum_route.proofs.routes.reached_by_items.Goals as goal
 

@@ -1,8 +1,4 @@
-use Rattle.std.proofs.Common.{◌≡◌, None, length, take, if◌then◌else◌}
-use Rattle.mum_base.specs.declared.perm.TheConstants.Perm.{WHISPER}
-use Rattle.mum_route.specs.Aims.{AreHeard, AreKnown}
-use Rattle.mum_route.specs.Hearing.{can_hear}
-use Rattle.mum_route.specs.Route.{by_items}
+use Rattle.mum_route.proofs.Common.{◌≡◌, None, length, take, if◌then◌else◌, WHISPER, AreHeard, AreKnown, can_hear, by_items}
 use Rattle.mum_route.proofs.routes.reached_by_items.Given as goal
 
 abbrev pub invariant-loop-item : goal.invariant-loop-item

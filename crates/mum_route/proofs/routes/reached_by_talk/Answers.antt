@@ -1,6 +1,5 @@
-use Rattle.std.proofs.Common.{get_or}
-use Rattle.mum_route.proofs.Aimed.{talk_heard}
-use Rattle.mum_route.proofs.Known.{known_none}
+use Rattle.mum_route.proofs.Common.{get_or}
+use Rattle.mum_route.proofs.{Aimed.talk_heard, Known.known_none}
 use Rattle.mum_route.proofs.routes.reached_by_talk.Goals as goal
 
 pub pass_aim-requires-clause-right : goal.pass_aim-requires-clause-right

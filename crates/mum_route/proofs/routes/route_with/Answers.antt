@@ -1,14 +1,5 @@
-use Rattle.std.proofs.Common.{◌≡◌, ◌∙◌, [], Option, Some, ap, sym}
-use Rattle.std.specs.Option.{option_copied, option_map_or}
-use Rattle.mum_base.specs.declared.number.SessionId.{SessionId}
-use Rattle.mum_users.specs.State.{RosterState}
-use Rattle.mum_users.specs.Sessions.{session_of}
-use Rattle.mum_users.specs.declared.user.User.{User}
-use Rattle.mum_route.specs.Hearers.{hearers_of}
-use Rattle.mum_route.specs.Route.{heard_from}
-use Rattle.mum_route.proofs.Hearers.{found_number}
-use Rattle.mum_route.proofs.Present.{channel_there}
-use Rattle.mum_route.proofs.Slots.{slot_below}
+use Rattle.mum_route.proofs.Common.{◌≡◌, ◌∙◌, [], Option, Some, ap, sym, option_copied, option_map_or, SessionId, RosterState, session_of, User, hearers_of, heard_from}
+use Rattle.mum_route.proofs.{Hearers.found_number, Present.channel_there, Slots.slot_below}
 use Rattle.mum_route.proofs.routes.route_with.Goals as goal
 
 pub hear_from-requires-clause-there : goal.hear_from-requires-clause-there

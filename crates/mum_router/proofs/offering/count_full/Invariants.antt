@@ -1,6 +1,5 @@
-use Rattle.std.proofs.Common.{◌≡◌, take}
-use Rattle.mum_router.specs.Offering.{full_of}
+use Rattle.mum_router.proofs.Common.{◌≡◌, take, full_of}
 use Rattle.mum_router.proofs.offering.count_full.Given as goal
 
 abbrev pub invariant-loop-out : goal.invariant-loop-out
-invariant-loop-out l = l.total ≡ full_of (take l.out-index l.outs)
+invariant-loop-out g l = l.total ≡ full_of (take l.out-index l.outs)

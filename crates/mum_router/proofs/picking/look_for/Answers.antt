@@ -1,6 +1,4 @@
-use Rattle.std.proofs.Common.{sym, subst, arith}
-use Rattle.mum_state.specs.State.{StateValue}
-use Rattle.mum_cache.specs.Caches.{AreSound}
+use Rattle.mum_router.proofs.Common.{sym, subst, arith, StateValue, AreSound}
 use Rattle.mum_router.proofs.Sound.{sound_later}
 use Rattle.mum_router.proofs.picking.look_for.Goals as goal
 

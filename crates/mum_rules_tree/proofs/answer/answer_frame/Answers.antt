@@ -1,5 +1,4 @@
-use Rattle.std.proofs.Common.{rules}
-use Rattle.mum_rules_tree.specs.Outcome.{answer_frame}
+use Rattle.mum_rules_tree.proofs.Common.{rules, answer_frame}
 use Rattle.mum_rules_tree.proofs.answer.answer_frame.Goals as goal
 
 pub returns : goal.returns

@@ -1,5 +1,4 @@
-use Rattle.std.proofs.Common.{◌≡◌, map, take}
-use Rattle.mum_rules_tree.specs.Policy.{group_told}
+use Rattle.mum_rules_tree.proofs.Common.{◌≡◌, map, take, group_told}
 use Rattle.mum_rules_tree.proofs.answer.groups_told.Given as goal
 
 abbrev pub invariant-loop-group : goal.invariant-loop-group

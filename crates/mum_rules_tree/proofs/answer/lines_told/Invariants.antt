@@ -1,5 +1,4 @@
-use Rattle.std.proofs.Common.{◌≡◌, map, take}
-use Rattle.mum_rules_tree.specs.Policy.{line_told}
+use Rattle.mum_rules_tree.proofs.Common.{◌≡◌, map, take, line_told}
 use Rattle.mum_rules_tree.proofs.answer.lines_told.Given as goal
 
 abbrev pub invariant-loop-entry : goal.invariant-loop-entry

@@ -1,5 +1,4 @@
-use Rattle.std.proofs.Common.{◌≡◌, take}
-use Rattle.mum_rules_tree.specs.Policy.{numbers}
+use Rattle.mum_rules_tree.proofs.Common.{◌≡◌, take, numbers}
 use Rattle.mum_rules_tree.proofs.answer.numbers.Given as goal
 
 abbrev pub invariant-loop-account : goal.invariant-loop-account

@@ -1,12 +1,4 @@
-use Rattle.std.proofs.Common.{◌≡◌, List, Some, ap, sym, ◌∙◌}
-use Rattle.mum_base.specs.declared.number.ChannelId.{ChannelId}
-use Rattle.mum_policy.specs.Member.{actor_of}
-use Rattle.mum_users.specs.Sessions.{session_of}
-use Rattle.mum_users.specs.State.{RosterState}
-use Rattle.mum_tree.specs.State.{TreeState}
-use Rattle.mum_rules_tree.specs.Asked.{command_of, names_there}
-use Rattle.mum_state.specs.Permissions.{actor_at, home}
-use Rattle.mum_rules_tree.specs.Verdict.{command_verdict, tree_verdict}
+use Rattle.mum_rules_tree.proofs.Common.{◌≡◌, List, Some, ap, sym, ◌∙◌, ChannelId, actor_of, session_of, RosterState, TreeState, command_of, names_there, actor_at, home, command_verdict, tree_verdict}
 use Rattle.mum_rules_tree.proofs.Heard.{decided, fitting, heard_verdict}
 use Rattle.mum_rules_tree.proofs.decide.decide_tree.Goals as goal
 

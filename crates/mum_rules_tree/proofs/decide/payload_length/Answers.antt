@@ -1,5 +1,4 @@
-use Rattle.std.proofs.Common.{rules}
-use Rattle.mum_rules_tree.specs.Asked.{payload_of}
+use Rattle.mum_rules_tree.proofs.Common.{rules, payload_of}
 use Rattle.mum_rules_tree.proofs.decide.payload_length.Goals as goal
 
 pub returns-in-State : goal.returns-in-State

@@ -1,5 +1,4 @@
-use Rattle.std.proofs.Common.{rules}
-use Rattle.mum_rules_tree.specs.Denial.{denied_frame}
+use Rattle.mum_rules_tree.proofs.Common.{rules, denied_frame}
 use Rattle.mum_rules_tree.proofs.denials.denied_frame.Goals as goal
 
 pub returns : goal.returns

@@ -1,5 +1,4 @@
-use Rattle.std.proofs.Common.{rules}
-use Rattle.mum_rules_tree.specs.Denial.{rejected_frame}
+use Rattle.mum_rules_tree.proofs.Common.{rules, rejected_frame}
 use Rattle.mum_rules_tree.proofs.denials.rejected_frame.Goals as goal
 
 pub returns : goal.returns

@@ -1,17 +1,6 @@
-use Rattle.std.proofs.Common.{◌≡◌, None, Ok, Some, ap, sym, ◌∙◌, subst}
-use Rattle.std.specs.Bool.{IsTrue}
-use Rattle.mum_policy.specs.Member.{actor_of}
+use Rattle.mum_rules_tree.proofs.Common.{◌≡◌, None, Ok, Some, ap, sym, ◌∙◌, subst, IsTrue, actor_of, TreeState, Edit, Accepted, Command, change_asked, all_met, first_standing, limits, limits_of_change, needs, edit_to_change, outcome}
 use Rattle.mum_tree.specs.Change.{names_there}
-use Rattle.mum_tree.specs.State.{TreeState}
-use Rattle.mum_state.specs.declared.edit.Edit.{Edit}
-use Rattle.mum_state.specs.declared.verdict.Verdict.TheVariants.{Accepted}
-use Rattle.mum_rules_tree.specs.Asked.{Command, change_asked}
-use Rattle.mum_rules_tree.specs.Decision.{all_met, first_standing}
-use Rattle.mum_rules_tree.specs.Limits.{limits, limits_of_change}
-use Rattle.mum_rules_tree.specs.Needs.{needs}
-use Rattle.mum_rules_tree.specs.Outcome.{edit_to_change, outcome}
-use Rattle.mum_rules_tree.proofs.Named.{are_there, change_there}
-use Rattle.mum_rules_tree.proofs.OneByOne.{passed, refused}
+use Rattle.mum_rules_tree.proofs.{Named.are_there, Named.change_there, OneByOne.passed, OneByOne.refused}
 use Rattle.mum_rules_tree.proofs.edit.decide_edit.Goals as goal
 
 pub limit_of_edit-requires : goal.limit_of_edit-requires

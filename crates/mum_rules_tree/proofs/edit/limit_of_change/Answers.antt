@@ -1,9 +1,4 @@
-use Rattle.std.proofs.Common.{Bool, Option, ap, ◌∙◌}
-use Rattle.mum_tree.specs.declared.fault.TreeFault.{TreeFault}
-use Rattle.mum_tree.specs.Change.{change_of, fault_of_edit}
-use Rattle.mum_state.specs.Fits.{holds_of_given}
-use Rattle.mum_state.specs.Proper.{is_name}
-use Rattle.mum_rules_tree.specs.Limits.{limit_by_cause}
+use Rattle.mum_rules_tree.proofs.Common.{Bool, Option, ap, ◌∙◌, TreeFault, change_of, fault_of_edit, holds_of_given, is_name, limit_by_cause}
 use Rattle.mum_rules_tree.proofs.ByCause.{by_cause}
 use Rattle.mum_rules_tree.proofs.edit.limit_of_change.Goals as goal
 

@@ -1,9 +1,4 @@
-use Rattle.std.proofs.Common.{List, ap, ◌∙◌}
-use Rattle.mum_base.specs.declared.number.ChannelId.{ChannelId}
-use Rattle.mum_tree.specs.Change.{Change}
-use Rattle.mum_rules_tree.specs.Asked.{change_asked, others}
-use Rattle.mum_rules_tree.specs.Decision.{first_standing}
-use Rattle.mum_rules_tree.specs.Limits.{limits_of_change, without_parting}
+use Rattle.mum_rules_tree.proofs.Common.{List, ap, ◌∙◌, ChannelId, Change, change_asked, others, first_standing, limits_of_change, without_parting}
 use Rattle.mum_rules_tree.proofs.edit.limit_of_edit.Goals as goal
 
 pub returns : goal.returns

@@ -1,9 +1,4 @@
-use Rattle.std.proofs.Common.{◌≡◌, ℕ, Err, List, map, arith, ap, ◌∙◌}
-use Rattle.std.proofs.lemmas.Grind.{common_steps}
-use Rattle.mum_base.specs.declared.perm.TheConstants.Perm.{LINK_CHANNEL}
-use Rattle.mum_policy.specs.Member.{actor_of}
-use Rattle.mum_rules_tree.specs.Asked.{others}
-use Rattle.mum_rules_tree.specs.Decision.{all_met, need}
+use Rattle.mum_rules_tree.proofs.Common.{◌≡◌, ℕ, Err, List, map, arith, ap, ◌∙◌, common_steps, LINK_CHANNEL, actor_of, others, all_met, need}
 use Rattle.mum_rules_tree.proofs.OneByOne.{second_stops, third_decides}
 use Rattle.mum_rules_tree.proofs.edit.need_on_linked.Goals as goal
 

@@ -1,8 +1,4 @@
-use Rattle.std.proofs.Common.{◌≡◌, drop, map}
-use Rattle.mum_base.specs.declared.perm.TheConstants.Perm.{LINK_CHANNEL}
-use Rattle.mum_policy.specs.Member.{actor_of}
-use Rattle.mum_rules_tree.specs.Asked.{others}
-use Rattle.mum_rules_tree.specs.Decision.{all_met, need, AreMet}
+use Rattle.mum_rules_tree.proofs.Common.{◌≡◌, drop, map, LINK_CHANNEL, actor_of, others, all_met, need, AreMet}
 use Rattle.mum_rules_tree.proofs.edit.need_on_others.Given as goal
 
 abbrev pub invariant-loop-number : goal.invariant-loop-number

@@ -1,6 +1,4 @@
-use Rattle.std.proofs.Common.{ap, sym, ◌∙◌}
-use Rattle.mum_policy.specs.Member.{actor_of}
-use Rattle.mum_rules_tree.specs.Decision.{all_met}
+use Rattle.mum_rules_tree.proofs.Common.{ap, sym, ◌∙◌, actor_of, all_met}
 use Rattle.mum_rules_tree.proofs.Linked.{linking, not_linking}
 use Rattle.mum_rules_tree.proofs.edit.need_to_link.Goals as goal
 

@@ -1,5 +1,4 @@
-use Rattle.std.proofs.Common.{◌≡◌, take}
-use Rattle.mum_rules_tree.specs.Asked.{others}
+use Rattle.mum_rules_tree.proofs.Common.{◌≡◌, take, others}
 use Rattle.mum_rules_tree.proofs.edit.others.Given as goal
 
 abbrev pub invariant-loop-number : goal.invariant-loop-number

@@ -1,6 +1,4 @@
-use Rattle.std.proofs.Common.{ap, sym, ◌∙◌}
-use Rattle.std.proofs.lemmas.Option.{none-some}
-use Rattle.mum_rules_tree.specs.Denial.{denial}
+use Rattle.mum_rules_tree.proofs.Common.{ap, sym, ◌∙◌, none-some, denial}
 use Rattle.mum_rules_tree.proofs.laws.denials_are_no_edits.Goals as goal
 
 pub returns : goal.returns

@@ -1,5 +1,4 @@
-use Rattle.std.proofs.Common.{sym}
-use Rattle.mum_policy.specs.Member.{actor_of}
+use Rattle.mum_rules_tree.proofs.Common.{sym, actor_of}
 use Rattle.mum_rules_tree.proofs.Found.{met_at, met_more, met_open, open_met, place_within, placed_in}
 use Rattle.mum_rules_tree.proofs.met.need_once.Goals as goal
 

@@ -1,8 +1,4 @@
-use Rattle.std.proofs.Common.{rules}
-use Rattle.std.proofs.Common.{arith}
-use Rattle.std.proofs.lemmas.Grind.{common_steps}
-use Rattle.std.proofs.lemmas.Bool.Decides.{nat_tests}
-use Rattle.mum_rules_tree.specs.Decision.{is_open}
+use Rattle.mum_rules_tree.proofs.Common.{rules, arith, common_steps, nat_tests, is_open}
 use Rattle.mum_rules_tree.proofs.needs.may.Goals as goal
 
 pub returns-in-Some : goal.returns-in-Some

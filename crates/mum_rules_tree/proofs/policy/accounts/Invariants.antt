@@ -1,5 +1,4 @@
-use Rattle.std.proofs.Common.{◌≡◌, take}
-use Rattle.mum_rules_tree.specs.Policy.{accounts}
+use Rattle.mum_rules_tree.proofs.Common.{◌≡◌, take, accounts}
 use Rattle.mum_rules_tree.proofs.policy.accounts.Given as goal
 
 abbrev pub invariant-loop-number : goal.invariant-loop-number

@@ -1,5 +1,4 @@
-use Rattle.std.proofs.Common.{◌≡◌, drop, map}
-use Rattle.mum_rules_tree.specs.Policy.{has_twice}
+use Rattle.mum_rules_tree.proofs.Common.{◌≡◌, drop, map, has_twice}
 use Rattle.mum_rules_tree.proofs.policy.has_twice.Given as goal
 
 abbrev pub invariant-loop-at : goal.invariant-loop-at

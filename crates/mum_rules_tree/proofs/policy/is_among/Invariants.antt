@@ -1,6 +1,4 @@
-use Rattle.std.proofs.Common.{◌≡◌, drop, map}
-use Rattle.std.specs.List.{list_any}
-use Rattle.std.specs.Str.{bytes_eq}
+use Rattle.mum_rules_tree.proofs.Common.{◌≡◌, drop, map, list_any, bytes_eq}
 use Rattle.mum_rules_tree.proofs.policy.is_among.Given as goal
 
 abbrev pub invariant-loop-group : goal.invariant-loop-group

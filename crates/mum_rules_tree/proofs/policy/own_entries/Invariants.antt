@@ -1,6 +1,4 @@
-use Rattle.std.proofs.Common.{◌≡◌, map, not, take}
-use Rattle.std.specs.List.{filter}
-use Rattle.mum_rules_tree.specs.Policy.{entry_asked, is_inherited}
+use Rattle.mum_rules_tree.proofs.Common.{◌≡◌, map, not, take, filter, entry_asked, is_inherited}
 use Rattle.mum_rules_tree.proofs.policy.own_entries.Given as goal
 
 abbrev pub invariant-loop-line : goal.invariant-loop-line

@@ -1,6 +1,4 @@
-use Rattle.std.proofs.Common.{◌≡◌, map, not, take}
-use Rattle.std.specs.List.{filter}
-use Rattle.mum_rules_tree.specs.Policy.{group_asked, is_inherited}
+use Rattle.mum_rules_tree.proofs.Common.{◌≡◌, map, not, take, filter, group_asked, is_inherited}
 use Rattle.mum_rules_tree.proofs.policy.own_groups.Given as goal
 
 abbrev pub invariant-loop-group : goal.invariant-loop-group

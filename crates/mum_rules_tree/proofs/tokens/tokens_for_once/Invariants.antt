@@ -1,5 +1,4 @@
-use Rattle.std.proofs.Common.{◌≡◌, take}
-use Rattle.mum_rules_tree.specs.Tokens.{tokens_for_once}
+use Rattle.mum_rules_tree.proofs.Common.{◌≡◌, take, tokens_for_once}
 use Rattle.mum_rules_tree.proofs.tokens.tokens_for_once.Given as goal
 
 abbrev pub invariant-loop-token : goal.invariant-loop-token

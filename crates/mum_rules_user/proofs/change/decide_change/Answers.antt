@@ -1,15 +1,4 @@
-use Rattle.std.proofs.Common.{◌≡◌, Ok, Some, None, ap, sym, ◌∙◌}
-use Rattle.mum_base.specs.declared.number.SessionId.{SessionId}
-use Rattle.mum_policy.specs.Member.{actor_of}
-use Rattle.mum_users.specs.State.{RosterState}
-use Rattle.mum_state.specs.declared.edit.Edit.{Edit}
-use Rattle.mum_state.specs.declared.verdict.Verdict.TheVariants.{Accepted}
-use Rattle.mum_rules_tree.specs.Decision.{all_met, first_standing}
-use Rattle.mum_rules_tree.proofs.OneByOne.{passed, refused}
-use Rattle.mum_rules_user.specs.Asked.{Command, session_or}
-use Rattle.mum_rules_user.specs.Limits.{limits, limits_of_change}
-use Rattle.mum_rules_user.specs.Needs.{needs}
-use Rattle.mum_rules_user.specs.Outcome.{edit_to_change, outcome}
+use Rattle.mum_rules_user.proofs.Common.{◌≡◌, Ok, Some, None, ap, sym, ◌∙◌, SessionId, actor_of, RosterState, Edit, Accepted, all_met, first_standing, passed, refused, Command, session_or, limits, limits_of_change, needs, edit_to_change, outcome}
 use Rattle.mum_rules_user.proofs.change.decide_change.Goals as goal
 
 pub returns-in-Some : goal.returns-in-Some

@@ -1,13 +1,4 @@
-use Rattle.std.proofs.Common.{◌≡◌, ℕ, false, List, Some, None, ap, sym, ◌∙◌}
-use Rattle.mum_users.specs.Sessions.{session_of}
-use Rattle.mum_users.specs.State.{RosterState}
-use Rattle.mum_rules_tree.specs.Decision.{first_standing}
-use Rattle.mum_rules_tree.specs.Reasons.{takes_no_edits}
-use Rattle.mum_rules_tree.specs.Tokens.{tokens_for_once}
-use Rattle.mum_state.specs.Permissions.{actor_with}
-use Rattle.mum_rules_tree.proofs.Heard.{decided}
-use Rattle.mum_rules_user.specs.Asked.{command_of}
-use Rattle.mum_rules_user.specs.Verdict.{command_verdict, user_verdict}
+use Rattle.mum_rules_user.proofs.Common.{◌≡◌, ℕ, false, List, Some, None, ap, sym, ◌∙◌, session_of, RosterState, first_standing, takes_no_edits, tokens_for_once, actor_with, decided, command_of, command_verdict, user_verdict}
 use Rattle.mum_rules_user.proofs.Decided.{fitting, found_again, later_reasons, session_verdict}
 use Rattle.mum_rules_user.proofs.decide.decide_for.Goals as goal
 

@@ -1,7 +1,4 @@
-use Rattle.std.proofs.Common.{ap, ◌∙◌}
-use Rattle.std.specs.List.{list_any}
-use Rattle.mum_base.specs.declared.number.SessionId.{SessionId}
-use Rattle.mum_users.specs.State.{has_number}
+use Rattle.mum_rules_user.proofs.Common.{ap, ◌∙◌, list_any, SessionId, has_number}
 use Rattle.mum_rules_user.proofs.Decided.{found_here}
 use Rattle.mum_rules_user.proofs.decide.decide_with_tokens.Goals as goal
 

@@ -1,5 +1,4 @@
-use Rattle.std.proofs.Common.{rules}
-use Rattle.mum_rules_user.specs.Asked.{payload_of}
+use Rattle.mum_rules_user.proofs.Common.{rules, payload_of}
 use Rattle.mum_rules_user.proofs.heard.payload_length.Goals as goal
 
 pub returns-in-Join : goal.returns-in-Join

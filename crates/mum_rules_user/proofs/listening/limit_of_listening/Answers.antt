@@ -1,8 +1,4 @@
-use Rattle.std.proofs.Common.{◌≡◌, Some, None, ap, sym, ◌∙◌}
-use Rattle.std.specs.Option.{option_map}
-use Rattle.mum_users.specs.Edit.{edit_fault, user_edit_of}
-use Rattle.mum_base.specs.declared.outcome.DenyType.{DenyType}
-use Rattle.mum_rules_user.specs.Codes.{listening_type_of}
+use Rattle.mum_rules_user.proofs.Common.{◌≡◌, Some, None, ap, sym, ◌∙◌, option_map, edit_fault, user_edit_of, DenyType, listening_type_of}
 use Rattle.mum_rules_user.proofs.Listened.{listening_by_cause}
 use Rattle.mum_rules_user.proofs.listening.limit_of_listening.Goals as goal
 

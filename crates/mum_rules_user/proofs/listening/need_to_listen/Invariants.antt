@@ -1,8 +1,4 @@
-use Rattle.std.proofs.Common.{◌≡◌, drop, map}
-use Rattle.mum_base.specs.declared.perm.TheConstants.Perm.{LISTEN}
-use Rattle.mum_policy.specs.Member.{actor_of}
-use Rattle.mum_rules_tree.specs.Decision.{all_met, need, AreMet}
-use Rattle.mum_rules_user.specs.Asked.{channels}
+use Rattle.mum_rules_user.proofs.Common.{◌≡◌, drop, map, LISTEN, actor_of, all_met, need, AreMet, channels}
 use Rattle.mum_rules_user.proofs.listening.need_to_listen.Given as goal
 
 abbrev pub invariant-loop-number : goal.invariant-loop-number

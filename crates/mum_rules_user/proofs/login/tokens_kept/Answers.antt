@@ -1,8 +1,4 @@
-use Rattle.std.proofs.Common.{ℕ, List, not, take, ap, ◌∙◌}
-use Rattle.std.specs.List.{filter}
-use Rattle.std.proofs.lemmas.List.{take_all, take_min}
-use Rattle.mum_users.specs.declared.user.TheConstants.{TOKENS}
-use Rattle.mum_users.specs.State.{is_long_token}
+use Rattle.mum_rules_user.proofs.Common.{ℕ, List, not, take, ap, ◌∙◌, filter, take_all, take_min, TOKENS, is_long_token}
 use Rattle.mum_rules_user.proofs.login.tokens_kept.Goals as goal
 
 pub returns : goal.returns

@@ -1,7 +1,4 @@
-use Rattle.std.proofs.Common.{arith, rules}
-use Rattle.std.proofs.lemmas.Bool.Decides.{nat_tests}
-use Rattle.std.proofs.lemmas.Grind.{common_steps}
-use Rattle.mum_rules_tree.specs.Decision.{is_open}
+use Rattle.mum_rules_user.proofs.Common.{arith, rules, nat_tests, common_steps, is_open}
 use Rattle.mum_rules_user.proofs.moving.may_either.Goals as goal
 
 pub returns-then-has : goal.returns-then-has

@@ -1,17 +1,5 @@
-use Rattle.std.proofs.Common.{◌≡◌, List, Option, Some, None, ap, sym, ◌∙◌}
-use Rattle.std.specs.Option.{option_map_or}
-use Rattle.mum_base.specs.declared.number.ChannelId.{ChannelId}
-use Rattle.mum_base.specs.declared.number.TheConstants.ChannelId.{ROOT}
-use Rattle.mum_policy.specs.Member.{Actor, actor_of}
-use Rattle.mum_tree.specs.State.{TreeState}
+use Rattle.mum_rules_user.proofs.Common.{◌≡◌, List, Option, Some, None, ap, sym, ◌∙◌, option_map_or, ChannelId, ROOT, Actor, actor_of, TreeState, session_of, RosterState, actor_from, actor_at, home, all_met, actor_named, nobody, channel_of, needs_to_bring}
 use Rattle.mum_users.specs.declared.user.User.{User}
-use Rattle.mum_users.specs.Sessions.{session_of}
-use Rattle.mum_users.specs.State.{RosterState}
-use Rattle.mum_state.specs.Permissions.{actor_from, actor_at, home}
-use Rattle.mum_rules_tree.specs.Decision.{all_met}
-use Rattle.mum_rules_tree.specs.Verdict.{actor_named, nobody}
-use Rattle.mum_rules_user.specs.Asked.{channel_of}
-use Rattle.mum_rules_user.specs.Needs.{needs_to_bring}
 use Rattle.mum_rules_user.proofs.moving.need_to_bring_named.Goals as goal
 
 pub returns-in-Some : goal.returns-in-Some

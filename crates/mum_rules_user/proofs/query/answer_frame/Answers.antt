@@ -1,5 +1,4 @@
-use Rattle.std.proofs.Common.{rules}
-use Rattle.mum_rules_user.specs.Outcome.{answer_frame}
+use Rattle.mum_rules_user.proofs.Common.{rules, answer_frame}
 use Rattle.mum_rules_user.proofs.query.answer_frame.Goals as goal
 
 pub returns : goal.returns

@@ -1,5 +1,4 @@
-use Rattle.std.proofs.Common.{◌≡◌, take}
-use Rattle.mum_rules_user.specs.Asked.{channels}
+use Rattle.mum_rules_user.proofs.Common.{◌≡◌, take, channels}
 use Rattle.mum_rules_user.proofs.session.channels.Given as goal
 
 abbrev pub invariant-loop-number : goal.invariant-loop-number

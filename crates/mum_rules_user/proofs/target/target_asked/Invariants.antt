@@ -1,5 +1,4 @@
-use Rattle.std.proofs.Common.{◌≡◌, map, take}
-use Rattle.mum_rules_user.specs.Asked.{item_asked}
+use Rattle.mum_rules_user.proofs.Common.{◌≡◌, map, take, item_asked}
 use Rattle.mum_rules_user.proofs.target.target_asked.Given as goal
 
 abbrev pub invariant-loop-block : goal.invariant-loop-block

@@ -1,8 +1,4 @@
-use Rattle.std.proofs.Common.{◌≡◌, drop, map}
-use Rattle.mum_base.specs.declared.perm.TheConstants.Perm.{TEXT_MESSAGE}
-use Rattle.mum_policy.specs.Member.{actor_of}
-use Rattle.mum_rules_tree.specs.Decision.{all_met, need, AreMet}
-use Rattle.mum_rules_user.specs.Asked.{channels_of}
+use Rattle.mum_rules_user.proofs.Common.{◌≡◌, drop, map, TEXT_MESSAGE, actor_of, all_met, need, AreMet, channels_of}
 use Rattle.mum_rules_user.proofs.text.need_at_sessions.Given as goal
 
 abbrev pub invariant-loop-number : goal.invariant-loop-number

@@ -1,9 +1,4 @@
-use Rattle.std.proofs.Common.{◌≡◌, ℕ, Err, List, map, arith, ap, sym, ◌∙◌}
-use Rattle.std.proofs.lemmas.Grind.{common_steps}
-use Rattle.mum_base.specs.declared.perm.TheConstants.Perm.{TEXT_MESSAGE}
-use Rattle.mum_policy.specs.Member.{actor_of}
-use Rattle.mum_rules_tree.specs.Decision.{all_met, need}
-use Rattle.mum_rules_user.specs.Asked.{channels_of, channels_there}
+use Rattle.mum_rules_user.proofs.Common.{◌≡◌, ℕ, Err, List, map, arith, ap, sym, ◌∙◌, common_steps, TEXT_MESSAGE, actor_of, all_met, need, channels_of, channels_there}
 use Rattle.mum_rules_user.proofs.InTurn.{first_fails, in_three, second_fails, third_decide}
 use Rattle.mum_rules_user.proofs.text.need_to_tell.Goals as goal
 

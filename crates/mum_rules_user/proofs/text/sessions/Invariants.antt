@@ -1,5 +1,4 @@
-use Rattle.std.proofs.Common.{◌≡◌, map, take}
-use Rattle.mum_rules_user.specs.Asked.{session_numbered}
+use Rattle.mum_rules_user.proofs.Common.{◌≡◌, map, take, session_numbered}
 use Rattle.mum_rules_user.proofs.text.sessions.Given as goal
 
 abbrev pub invariant-loop-number : goal.invariant-loop-number

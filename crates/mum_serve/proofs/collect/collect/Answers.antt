@@ -1,8 +1,6 @@
 -- What the roles came to is what is handed on.
-use Rattle.std.proofs.Common.{◌≡◌, ◌∙◌, ℕ, true, ap, refl, subst}
-use Rattle.mum_doorway.specs.Doors.{NoMoreCome, given_after_all}
+use Rattle.mum_serve.proofs.Common.{◌≡◌, ◌∙◌, ℕ, true, ap, refl, subst, NoMoreCome, given_after_all, Opening}
 use Rattle.mum_owner.specs.Turned.{has_ended}
-use Rattle.mum_published.specs.Facts.{Opening}
 use Rattle.mum_serve.proofs.Clocking.{clock_comes_back}
 use Rattle.mum_serve.proofs.collect.collect.Goals as goal
 

@@ -1,5 +1,5 @@
 -- Each worker is compared, and none is left.
-use Rattle.std.proofs.Common.{◌<◌, ◌≤◌, length, arith}
+use Rattle.mum_serve.proofs.Common.{◌<◌, ◌≤◌, length, arith}
 use Rattle.mum_serve.proofs.Ending.{all_compared, compared_one, is_within}
 use Rattle.mum_serve.proofs.collect.compare.Goals as goal
 

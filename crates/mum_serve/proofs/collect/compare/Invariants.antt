@@ -1,4 +1,4 @@
-use Rattle.std.proofs.Common.{drop}
+use Rattle.mum_serve.proofs.Common.{drop}
 use Rattle.mum_serve.proofs.Ending.{Compared}
 use Rattle.mum_serve.proofs.collect.compare.Given as goal
 

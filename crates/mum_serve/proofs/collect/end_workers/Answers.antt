@@ -1,10 +1,5 @@
 -- Each worker is ended, what it came to is added, and what it wrote down is pushed.
-use Rattle.std.proofs.Common.{◌∙◌, List, [], ◌∷◌, length, length-append, map, ap, arith}
-use Rattle.std.specs.Vec.Iter.{into_iter_items}
-use Rattle.mum_record.specs.declared.journal.WorkerEntry.{WorkerEntry}
-use Rattle.mum_serve.specs.Journals.{entries_of}
-use Rattle.mum_serve.specs.Roles.{with_workers}
-use Rattle.mum_serve.specs.Totals.{nothing}
+use Rattle.mum_serve.proofs.Common.{◌∙◌, List, [], ◌∷◌, length, length-append, map, ap, arith, into_iter_items, WorkerEntry, entries_of, with_workers, nothing}
 use Rattle.mum_serve.proofs.Ending.{all_taken, each_more, entries_taken, took_entries, took_worker}
 use Rattle.mum_serve.proofs.collect.end_workers.Goals as goal
 

@@ -1,10 +1,4 @@
-use Rattle.std.proofs.Common.{◌≡◌, ◌≤◌, ◌+◌, ◌++◌, length, map}
-use Rattle.std.specs.Vec.{vec_capacity}
-use Rattle.std.specs.Vec.Iter.{into_iter_items, into_iter_len}
-use Rattle.mum_record.specs.Journal.{Each, IsWritableEntry}
-use Rattle.mum_serve.specs.Journals.{entries_of}
-use Rattle.mum_serve.specs.Roles.{with_workers}
-use Rattle.mum_serve.specs.Totals.{nothing}
+use Rattle.mum_serve.proofs.Common.{◌≡◌, ◌≤◌, ◌+◌, ◌++◌, length, map, vec_capacity, into_iter_items, into_iter_len, Each, IsWritableEntry, entries_of, with_workers, nothing}
 use Rattle.mum_serve.proofs.collect.end_workers.Given as goal
 
 abbrev pub invariant-loop-worker : goal.invariant-loop-worker

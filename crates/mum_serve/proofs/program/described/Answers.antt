@@ -1,5 +1,5 @@
 -- The document says what it is read as.
-use Rattle.std.proofs.Common.{Ok}
+use Rattle.mum_serve.proofs.Common.{Ok}
 use Rattle.mum_serve.proofs.Refused.{is_refusal, refusal_reads, refused_as, settings_alone}
 use Rattle.mum_serve.proofs.program.described.Goals as goal
 

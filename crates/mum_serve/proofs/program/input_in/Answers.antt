@@ -1,6 +1,5 @@
 -- What was read of the input says what all of it says.
-use Rattle.std.proofs.Common.{List, ℕ, Ok, Err, subst}
-use Rattle.mum_serve.specs.Program.{Describes}
+use Rattle.mum_serve.proofs.Common.{List, ℕ, Ok, Err, subst, Describes}
 use Rattle.mum_serve.proofs.Refused.{all_say, is_input}
 use Rattle.mum_serve.proofs.program.input_in.Goals as goal
 

@@ -1,20 +1,6 @@
 -- Where nobody was served nothing is written.
-use Rattle.std.proofs.Common.{ℕ, List, Option, inr, subst}
-use Rattle.mum_io.specs.Door.{DoorFacts}
-use Rattle.mum_io.specs.Link.{LinkFacts}
-use Rattle.mum_keeper.specs.Keeping.{KeeperFacts}
-use Rattle.mum_opening.specs.Opening.{document_edits}
-use Rattle.mum_opening.proofs.Described.{edits_are}
-use Rattle.mum_record.specs.declared.journal.Journal.{Journal}
-use Rattle.mum_serve.specs.Asked.{Lent, Service, service}
-use Rattle.mum_serve.specs.Program.{DescribesConfig, WritesText, text_of}
-use Rattle.mum_serve.specs.Serving.{ServesOver}
-use Rattle.mum_serve.specs.declared.program.Input.{Input}
-use Rattle.mum_serve.specs.declared.server.Served.{Served}
-use Rattle.mum_state.specs.declared.edit.Edit.{Edit}
-use Rattle.mum_serve.proofs.Ending.{as_many_lists}
-use Rattle.mum_serve.proofs.Refused.{keeps_same}
-use Rattle.mum_serve.proofs.Written.{all_served}
+use Rattle.mum_serve.proofs.Common.{ℕ, List, Option, inr, subst, DoorFacts, LinkFacts, KeeperFacts, document_edits, edits_are, Journal, Lent, Service, service, DescribesConfig, WritesText, text_of, ServesOver, Input, Served, Edit}
+use Rattle.mum_serve.proofs.{Ending.as_many_lists, Refused.keeps_same, Written.all_served}
 use Rattle.mum_serve.proofs.program.serve_input.Goals as goal
 
 -- the edits that were read are those of the document

@@ -1,6 +1,5 @@
--- Behind the text that is written a front of the last lines is.
-use Rattle.std.proofs.Common.{◌∙◌, sym}
-use Rattle.mum_io.proofs.OutsideLemmas.{AppendsFront-behind}
+-- After the text that is written a front of the last lines is.
+use Rattle.mum_serve.proofs.Common.{◌∙◌, sym, AppendsFront-behind}
 use Rattle.mum_serve.proofs.Written.{err_of, ok_of}
 use Rattle.mum_serve.proofs.program.write_behind.Goals as goal
 

@@ -1,11 +1,5 @@
 -- One box more has the number of its slot for its name, and all numbers.
-use Rattle.std.proofs.Common.{[], ◌∷◌, List, ◌∙◌, ap, length, length-append, subst, sym, arith}
-use Rattle.std.specs.List.{All}
-use Rattle.std.proofs.lemmas.List.Elements.{All-push}
-use Rattle.mum_outbox.specs.declared.rule.TheConstants.{LAST}
-use Rattle.mum_outbox.specs.Calls.{HasNumbers}
-use Rattle.mum_outbox.specs.Facts.{QueueFacts}
-use Rattle.mum_outbox.proofs.Giving.{first_has}
+use Rattle.mum_serve.proofs.Common.{[], ◌∷◌, List, ◌∙◌, ap, length, length-append, subst, sym, arith, All, All-push, LAST, HasNumbers, QueueFacts, first_has}
 use Rattle.mum_serve.proofs.Naming.{named_more}
 use Rattle.mum_serve.proofs.queues.add_boxes.Goals as goal
 

@@ -1,9 +1,4 @@
-use Rattle.std.proofs.Common.{◌≡◌, length}
-use Rattle.std.specs.List.{All}
-use Rattle.mum_outbox.specs.Calls.{HasNumbers}
-use Rattle.mum_outbox.specs.declared.rule.TheConstants.{LAST}
-use Rattle.mum_worker.specs.Boxes.{queues as queues_of}
-use Rattle.mum_serve.specs.Queues.{AreNamedFrom}
+use Rattle.mum_serve.proofs.Common.{◌≡◌, length, All, HasNumbers, LAST, queues_of, AreNamedFrom}
 use Rattle.mum_serve.proofs.queues.add_boxes.Given as goal
 
 abbrev pub invariant-boxes : goal.invariant-boxes

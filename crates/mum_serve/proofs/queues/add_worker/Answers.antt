@@ -1,5 +1,5 @@
 -- One worker more shares what the others do, and has a bell.
-use Rattle.std.proofs.Common.{◌∙◌}
+use Rattle.mum_serve.proofs.Common.{◌∙◌}
 use Rattle.mum_serve.proofs.Sharing.{one_more}
 use Rattle.mum_serve.proofs.queues.add_worker.Goals as goal
 

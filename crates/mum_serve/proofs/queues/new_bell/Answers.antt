@@ -1,6 +1,5 @@
 -- Both are of one queue, with its name.
-use Rattle.std.proofs.Common.{◌∙◌, ap, sym}
-use Rattle.mum_outbox.specs.Facts.{QueueFacts}
+use Rattle.mum_serve.proofs.Common.{◌∙◌, ap, sym, QueueFacts}
 use Rattle.mum_serve.proofs.queues.new_bell.Goals as goal
 
 pub returns-in-Ok-clause-same : goal.returns-in-Ok-clause-same

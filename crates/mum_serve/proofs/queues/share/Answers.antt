@@ -1,5 +1,5 @@
 -- Each owner keeps the lower half of its numbers, and the other gets the upper half.
-use Rattle.std.proofs.Common.{refl}
+use Rattle.mum_serve.proofs.Common.{refl}
 use Rattle.mum_serve.proofs.queues.share.Goals as goal
 
 pub returns-in-Ok-share_boxes : goal.returns-in-Ok-share_boxes

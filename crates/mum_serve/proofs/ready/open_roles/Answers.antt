@@ -1,8 +1,5 @@
 -- They are listed in their order.
-use Rattle.std.proofs.Common.{sym, subst}
-use Rattle.mum_serve.specs.Asked.{service}
-use Rattle.mum_serve.specs.Ready.{AreNew}
-use Rattle.mum_serve.specs.declared.later.Unused.{Unused}
+use Rattle.mum_serve.proofs.Common.{sym, subst, service, AreNew, Unused}
 use Rattle.mum_serve.proofs.ready.open_roles.Goals as goal
 
 pub returns-in-Ok-open_each-clause-ready : goal.returns-in-Ok-open_each-clause-ready

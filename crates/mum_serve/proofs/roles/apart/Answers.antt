@@ -1,5 +1,5 @@
 -- The owner is taken from the front, and then the others.
-use Rattle.std.proofs.Common.{arith}
+use Rattle.mum_serve.proofs.Common.{arith}
 use Rattle.mum_serve.proofs.Together.{all_apart, first_is, others_left, some_role}
 use Rattle.mum_serve.proofs.roles.apart.Goals as goal
 

@@ -1,6 +1,5 @@
 -- One worker is taken after another, and then the viewer.
-use Rattle.std.proofs.Common.{List, [], ◌∷◌, length, length-append, ap, arith}
-use Rattle.std.specs.Vec.Iter.{into_iter_items}
+use Rattle.mum_serve.proofs.Common.{List, [], ◌∷◌, length, length-append, ap, arith, into_iter_items}
 use Rattle.mum_serve.proofs.Together.{all_taken, no_owner_left, none_taken, took_one, took_store, took_viewer}
 use Rattle.mum_serve.proofs.roles.take_apart.Goals as goal
 

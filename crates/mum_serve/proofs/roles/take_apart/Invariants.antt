@@ -1,6 +1,4 @@
-use Rattle.std.proofs.Common.{◌≡◌, ◌≤◌, ◌+◌, length}
-use Rattle.std.specs.Vec.{vec_capacity}
-use Rattle.std.specs.Vec.Iter.{into_iter_items, into_iter_len}
+use Rattle.mum_serve.proofs.Common.{◌≡◌, ◌≤◌, ◌+◌, length, vec_capacity, into_iter_items, into_iter_len}
 use Rattle.mum_serve.proofs.Together.{Taken}
 use Rattle.mum_serve.proofs.roles.take_apart.Given as goal
 

@@ -1,6 +1,5 @@
--- Each worker stands behind those before it.
-use Rattle.std.proofs.Common.{length, ap, arith}
-use Rattle.std.specs.Vec.Iter.{into_iter_items}
+-- Each worker comes after those before it.
+use Rattle.mum_serve.proofs.Common.{length, ap, arith, into_iter_items}
 use Rattle.mum_serve.proofs.Together.{put_all, put_later, put_one, room_behind}
 use Rattle.mum_serve.proofs.roles.together.Goals as goal
 

@@ -1,6 +1,4 @@
-use Rattle.std.proofs.Common.{◌≡◌, ◌≤◌, ◌+◌, ◌++◌, ◌∷◌, length, map}
-use Rattle.std.specs.Vec.{vec_capacity}
-use Rattle.std.specs.Vec.Iter.{into_iter_items, into_iter_len}
+use Rattle.mum_serve.proofs.Common.{◌≡◌, ◌≤◌, ◌+◌, ◌++◌, ◌∷◌, length, map, vec_capacity, into_iter_items, into_iter_len}
 use Rattle.mum_serve.specs.declared.roles.Roles.TheVariants as kinds
 use Rattle.mum_serve.proofs.roles.together.Given as goal
 

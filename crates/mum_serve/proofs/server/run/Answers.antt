@@ -1,18 +1,5 @@
 -- What the crew gives back is what it was given, and has run where the crew did.
-use Rattle.std.proofs.Common.{◌≡◌, ℕ, List, subst, sym}
-use Rattle.mum_crew.specs.declared.crew.CrewEnd.{CrewEnd}
-use Rattle.mum_doorway.specs.declared.opening.DoorOpening.{DoorOpening}
-use Rattle.mum_io.specs.Door.{DoorFacts}
-use Rattle.mum_keeper.specs.Keeping.{KeeperFacts}
-use Rattle.mum_keeper.specs.declared.naming.KeeperOpening.{KeeperOpening}
-use Rattle.mum_state.specs.State.{StateValue}
-use Rattle.mum_serve.specs.Asked.{service}
-use Rattle.mum_serve.specs.Ready.{ComeTo}
-use Rattle.mum_serve.specs.declared.asked.Objects.{Objects}
-use Rattle.mum_serve.specs.declared.entries.Entries.{Entries}
-use Rattle.mum_serve.specs.declared.later.Unused.{Unused}
-use Rattle.mum_serve.specs.declared.roles.Roles.{Roles}
-use Rattle.mum_serve.specs.declared.summary.Summary.{Summary}
+use Rattle.mum_serve.proofs.Common.{◌≡◌, ℕ, List, subst, sym, CrewEnd, DoorOpening, DoorFacts, KeeperFacts, KeeperOpening, StateValue, service, ComeTo, Objects, Entries, Unused, Roles, Summary}
 use Rattle.mum_serve.proofs.Readied.{are_back, counted_so, gives_back, leaves_so, runs_so}
 use Rattle.mum_serve.proofs.server.run.Goals as goal
 

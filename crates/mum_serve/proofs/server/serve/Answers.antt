@@ -1,5 +1,5 @@
 -- What was lent was there, and is there again.
-use Rattle.std.proofs.Common.{◌∙◌, Option, Some, ap, refl, sym}
+use Rattle.mum_serve.proofs.Common.{◌∙◌, Option, Some, ap, refl, sym}
 use Rattle.mum_serve.proofs.server.serve.Goals as goal
 
 pub returns-clause-serves : goal.returns-clause-serves

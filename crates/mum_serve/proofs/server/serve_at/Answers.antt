@@ -1,5 +1,5 @@
 -- What was run over the doors that were opened is what was served over them.
-use Rattle.mum_serve.specs.Asked.{service}
+use Rattle.mum_serve.proofs.Common.{service}
 use Rattle.mum_serve.proofs.Doors.{clock_so, serves_so}
 use Rattle.mum_serve.proofs.server.serve_at.Goals as goal
 

@@ -1,15 +1,6 @@
 -- One worker more takes the next pass and the next ends.
-use Rattle.std.proofs.Common.{◌≡◌, ◌∙◌, List, Option, is_some, length, ap, subst, sym, arith}
-use Rattle.std.specs.List.{All, AllByRecursion}
-use Rattle.std.specs.Vec.Iter.{into_iter_items}
-use Rattle.std.proofs.lemmas.List.Elements.{All-head, All-rest}
-use Rattle.mum_published.specs.Calls.{IsFresh}
-use Rattle.mum_published.specs.Facts.{PassFacts}
-use Rattle.mum_serve.specs.Opened.{AreOpenedFrom}
-use Rattle.mum_serve.specs.Queues.{HasBoxes}
-use Rattle.mum_worker.specs.Facts.{WorkerFacts}
-use Rattle.mum_serve.proofs.Opening.{among_more, many_more, opened_more, over_more, over_nobody, worker_begins}
-use Rattle.mum_serve.proofs.start.open_workers.Goals.{in_default-2-via-in-Some+in_default, in_default-2-via-in_default}
+use Rattle.mum_serve.proofs.Common.{◌≡◌, ◌∙◌, List, Option, is_some, length, ap, subst, sym, arith, All, AllByRecursion, into_iter_items, All-head, All-rest, IsFresh, PassFacts, AreOpenedFrom, HasBoxes, WorkerFacts}
+use Rattle.mum_serve.proofs.{Opening.among_more, Opening.many_more, Opening.opened_more, Opening.over_more, Opening.over_nobody, Opening.worker_begins, start.open_workers.Goals.in_default-2-via-in-Some+in_default, start.open_workers.Goals.in_default-2-via-in_default}
 use Rattle.mum_serve.proofs.start.open_workers.Goals as goal
 
 pub workers-init : goal.workers-init

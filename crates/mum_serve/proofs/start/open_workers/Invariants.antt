@@ -1,10 +1,4 @@
-use Rattle.std.proofs.Common.{◌≡◌, ◌≤◌, ◌+◌, length}
-use Rattle.std.specs.List.{All, AllByRecursion}
-use Rattle.std.specs.Vec.{vec_capacity}
-use Rattle.std.specs.Vec.Iter.{into_iter_items, into_iter_len}
-use Rattle.mum_published.specs.Calls.{IsFresh}
-use Rattle.mum_serve.specs.Opened.{AreOpenedFrom}
-use Rattle.mum_serve.specs.Queues.{HasBoxes}
+use Rattle.mum_serve.proofs.Common.{◌≡◌, ◌≤◌, ◌+◌, length, All, AllByRecursion, vec_capacity, into_iter_items, into_iter_len, IsFresh, AreOpenedFrom, HasBoxes}
 use Rattle.mum_serve.proofs.Opening.{AreOver}
 use Rattle.mum_serve.proofs.start.open_workers.Given as goal
 

@@ -1,17 +1,6 @@
 -- The owner and the workers are joined by the queues that were made.
-use Rattle.std.proofs.Common.{Option, ap, subst, sym}
-use Rattle.std.specs.List.{All}
-use Rattle.mum_control.specs.Facts.{ControlFacts}
-use Rattle.mum_keeper.specs.Archive.{queue_of}
-use Rattle.mum_outbox.proofs.Giving.{pass_below}
-use Rattle.mum_owner.specs.Bell.{queues}
-use Rattle.mum_owner.specs.Facts.{OwnerFacts}
-use Rattle.mum_serve.specs.Numbers.{HasOwnNumber}
-use Rattle.mum_serve.proofs.Numbering.{workers_numbered}
-use Rattle.mum_serve.specs.Opened.{AreOpened}
-use Rattle.mum_serve.proofs.Joining.{are_joined}
-use Rattle.mum_serve.proofs.Clocking.{clock_begins}
-use Rattle.mum_serve.proofs.Opening.{archive_is, owner_begins}
+use Rattle.mum_serve.proofs.Common.{Option, ap, subst, sym, All, ControlFacts, queue_of, pass_below, queues, OwnerFacts, HasOwnNumber, AreOpened}
+use Rattle.mum_serve.proofs.{Numbering.workers_numbered, Joining.are_joined, Clocking.clock_begins, Opening.archive_is, Opening.owner_begins}
 use Rattle.mum_serve.proofs.start.start.Goals as goal
 
 pub returns-in-Ok-open-clause-begun : goal.returns-in-Ok-open-clause-begun

@@ -1,10 +1,5 @@
 -- Without rows, and without channels in them, the configuration describes the state; and else the channels are made again.
-use Rattle.std.proofs.Common.{◌≡◌, ◌++◌, Some}
-use Rattle.std.proofs.lemmas.Result.{IfOk-weaker}
-use Rattle.mum_opening.specs.Opening.{limits_edits}
-use Rattle.mum_state.specs.After.{after}
-use Rattle.mum_state.specs.State.{StateValue}
-use Rattle.mum_serve.specs.Loading.{state_over}
+use Rattle.mum_serve.proofs.Common.{◌≡◌, ◌++◌, Some, IfOk-weaker, limits_edits, after, StateValue, state_over}
 use Rattle.mum_serve.proofs.Beginning.{over_no_channels, over_no_rows}
 use Rattle.mum_serve.proofs.states.first_state.Goals as goal
 

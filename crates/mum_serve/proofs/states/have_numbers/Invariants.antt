@@ -1,5 +1,4 @@
-use Rattle.std.proofs.Common.{drop}
-use Rattle.mum_kept_laws.specs.RoundTrip.{HaveNumbers}
+use Rattle.mum_serve.proofs.Common.{drop, HaveNumbers}
 use Rattle.mum_serve.proofs.states.have_numbers.Given as goal
 
 -- those before this one have such numbers

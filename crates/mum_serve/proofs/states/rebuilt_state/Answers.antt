@@ -1,12 +1,5 @@
--- The channels are made behind the settings and the accounts, and these behind the limits.
-use Rattle.std.proofs.Common.{◌≡◌, ◌∙◌, ◌++◌, subst}
-use Rattle.std.proofs.lemmas.Result.{IfOk-weaker}
-use Rattle.mum_config.specs.Limits.{settings_and_accounts}
-use Rattle.mum_kept.specs.Rebuild.{rebuild}
-use Rattle.mum_kept_laws.specs.RoundTrip.{HaveNumbers}
-use Rattle.mum_opening.specs.Opening.{served_edits}
-use Rattle.mum_state.specs.After.{after, led_to}
-use Rattle.mum_state.specs.State.{StateValue}
+-- The channels are made after the settings and the accounts, and these after the limits.
+use Rattle.mum_serve.proofs.Common.{◌≡◌, ◌∙◌, ◌++◌, subst, IfOk-weaker, settings_and_accounts, rebuild, HaveNumbers, served_edits, after, led_to, StateValue}
 use Rattle.mum_serve.proofs.Beginning.{all_led_behind, channels_fit_behind, settings_fit_first}
 use Rattle.mum_serve.proofs.states.rebuilt_state.Goals as goal
 

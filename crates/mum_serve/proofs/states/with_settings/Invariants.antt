@@ -1,6 +1,4 @@
-use Rattle.std.proofs.Common.{drop}
-use Rattle.mum_config.specs.Limits.{settings_and_accounts}
-use Rattle.mum_state.specs.After.{led_to}
+use Rattle.mum_serve.proofs.Common.{drop, settings_and_accounts, led_to}
 use Rattle.mum_serve.proofs.Beginning.{LeadsOn}
 use Rattle.mum_serve.proofs.states.with_settings.Given as goal
 

@@ -1,9 +1,6 @@
 -- The journal of the input, its line, and what was written.
-use Rattle.std.proofs.Common.{ℕ, List, subst}
-use Rattle.std.specs.Prelude.{string_bytes}
-use Rattle.mum_server.specs.Program.{Ends}
+use Rattle.mum_server.proofs.Common.{ℕ, List, subst, string_bytes, Ends, Finished}
 use Rattle.mum_server.proofs.Audits.{counts_reads, input_stops, input_told, input_wrong}
-use Rattle.mum_server.specs.declared.end.End.TheVariants.{Finished}
 use Rattle.mum_server.proofs.audit.audit_input.Goals as goal
 
 pub returns-in-Err-clause-ends : goal.returns-in-Err-clause-ends

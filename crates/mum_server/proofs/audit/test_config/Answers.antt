@@ -1,8 +1,5 @@
 -- The first fault of the document.
-use Rattle.std.proofs.Common.{◌∙◌, ℕ, List, sym, ap}
-use Rattle.std.specs.Option.{option_map}
-use Rattle.mum_config.specs.Refusal.{told_fault}
-use Rattle.mum_opening.specs.Opening.{document_fault}
+use Rattle.mum_server.proofs.Common.{◌∙◌, ℕ, List, sym, ap, option_map, told_fault, document_fault}
 use Rattle.mum_server.proofs.audit.test_config.Goals as goal
 
 pub returns-in-Err-Fault : goal.returns-in-Err-Fault

@@ -1,6 +1,5 @@
--- The first word tells.
-use Rattle.std.proofs.Common.{◌≡◌, ◌↔◌, IsTrue, codes, subst, List, ℕ, arith}
-use Rattle.std.specs.Prelude.{string_bytes}
+-- The first word decides.
+use Rattle.mum_server.proofs.Common.{◌≡◌, ◌↔◌, IsTrue, codes, subst, List, ℕ, arith, string_bytes}
 use Rattle.mum_server.proofs.ServeWords.{begins}
 use Rattle.mum_server.proofs.command.begins_with_serve.Goals as goal
 

@@ -1,6 +1,5 @@
 -- Three words name a door where each of them is as it is to be.
-use Rattle.std.proofs.Common.{◌∙◌, sym, refl, arith}
-use Rattle.mum_record.proofs.Numbers.{number_within-found}
+use Rattle.mum_server.proofs.Common.{◌∙◌, sym, refl, arith, number_within-found}
 use Rattle.mum_server.proofs.ServeWords.{door_is, named_of, not_counted}
 use Rattle.mum_server.proofs.command.door_of.Goals as goal
 

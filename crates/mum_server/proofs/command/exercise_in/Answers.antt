@@ -1,10 +1,6 @@
 -- Three words ask for an exercise where each of them is as it is to be.
-use Rattle.std.proofs.Common.{◌^◌, ◌-◌, sym, ap, ◌∙◌, arith}
-use Rattle.std.specs.Prelude.{map, string_bytes}
-use Rattle.mum_record.proofs.Numbers.{number_within-found}
-use Rattle.mum_record.specs.Words.{number_within}
+use Rattle.mum_server.proofs.Common.{◌^◌, ◌-◌, sym, ap, ◌∙◌, arith, map, string_bytes, number_within-found, number_within, ROUNDS_LIMIT}
 use Rattle.mum_server.proofs.Asked.{asks_exercise, map_three, none_said, three_asked}
-use Rattle.mum_server.specs.declared.command.TheConstants.{ROUNDS_LIMIT}
 use Rattle.mum_server.proofs.command.exercise_in.Goals as goal
 
 pub returns-then-not-is_word-clause-asked : goal.returns-then-not-is_word-clause-asked

@@ -1,6 +1,5 @@
 -- The one word is compared with `audit`.
-use Rattle.std.proofs.Common.{List, ℕ, [], ◌∷◌, sym, ap, ◌∙◌, arith}
-use Rattle.std.specs.Prelude.{codes, string_bytes}
+use Rattle.mum_server.proofs.Common.{List, ℕ, [], ◌∷◌, sym, ap, ◌∙◌, arith, codes, string_bytes}
 use Rattle.mum_server.proofs.OneWord.{map_one, one_is}
 use Rattle.mum_server.proofs.command.is_audit.Goals as goal
 

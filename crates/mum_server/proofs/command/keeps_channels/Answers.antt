@@ -1,5 +1,5 @@
 -- The words ask for a run, so they are no other words.
-use Rattle.mum_serve.specs.Asked.{service}
+use Rattle.mum_server.proofs.Common.{service}
 use Rattle.mum_server.proofs.command.keeps_channels.Goals as goal
 
 pub returns-in-Some-clause-other : goal.returns-in-Some-clause-other

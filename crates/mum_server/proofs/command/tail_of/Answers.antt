@@ -1,6 +1,5 @@
 -- Words ask for no tail where a part of them is not what its place asks for.
-use Rattle.std.proofs.Common.{arith}
-use Rattle.std.specs.Prelude.{map, string_bytes}
+use Rattle.mum_server.proofs.Common.{arith, map, string_bytes}
 use Rattle.mum_server.proofs.ServeWords.{map_five, map_four, no_five, no_four, no_path, no_view}
 use Rattle.mum_server.proofs.command.tail_of.Goals as goal
 

@@ -1,6 +1,5 @@
 -- Each line that is given is gathered, and each way out says what was.
-use Rattle.std.proofs.Common.{◌++◌, ◌∙◌, List, ℕ, ap, arith, refl}
-use Rattle.mum_lines.specs.Lines.{ReaderState}
+use Rattle.mum_server.proofs.Common.{◌++◌, ◌∙◌, List, ℕ, ap, arith, refl, ReaderState}
 use Rattle.mum_server.proofs.Gathering.{gathers_end, gathers_first, gathers_line, gathers_long, gathers_rest}
 use Rattle.mum_server.proofs.journal_input.gather.Goals as goal
 

@@ -1,6 +1,5 @@
 -- What was gathered has the first fault of the input.
-use Rattle.std.proofs.Common.{ℕ, List, subst}
-use Rattle.mum_server.specs.JournalText.{ReadsGathered}
+use Rattle.mum_server.proofs.Common.{ℕ, List, subst, ReadsGathered}
 use Rattle.mum_server.proofs.SameReading.{input_read}
 use Rattle.mum_server.proofs.journal_input.read_input.Goals as goal
 

@@ -1,6 +1,5 @@
--- The document that the line names opens what begins behind it.
-use Rattle.std.proofs.Common.{◌≡◌, Some}
-use Rattle.mum_record.specs.Head.{config_of}
+-- The document that the line names opens what begins after it.
+use Rattle.mum_server.proofs.Common.{◌≡◌, Some, config_of}
 use Rattle.mum_server.proofs.Answered.{named_begins}
 use Rattle.mum_server.proofs.opening.begin.Goals as goal
 

@@ -1,4 +1,4 @@
-use Rattle.std.proofs.Common.{◌∙◌}
+use Rattle.mum_server.proofs.Common.{◌∙◌}
 use Rattle.mum_server.proofs.Answered.{config_opens}
 use Rattle.mum_server.proofs.opening.open_core.Goals as goal
 

@@ -1,4 +1,4 @@
-use Rattle.std.proofs.Common.{refl, inl}
+use Rattle.mum_server.proofs.Common.{refl, inl}
 use Rattle.mum_server.proofs.program.report.Goals as goal
 
 pub returns-in-ReadFault : goal.returns-in-ReadFault

@@ -1,7 +1,5 @@
 -- What the words ask for is what was run, and its end is what is answered and said.
-use Rattle.std.proofs.Common.{rules}
-use Rattle.std.specs.Prelude.{map, string_bytes}
-use Rattle.mum_io.specs.Outside.{Rose}
+use Rattle.mum_server.proofs.Common.{rules, map, string_bytes, Rose}
 use Rattle.mum_server.proofs.Reported.{asks_for_one, asks_that, audit_answered, audit_said, exercise_answered, exercise_said, memory_said, replay_answered, replay_said}
 use Rattle.mum_server.proofs.program.run_plain.Goals as goal
 

@@ -1,7 +1,5 @@
--- Each line that is taken goes on with what was told; each way out says what was written.
-use Rattle.std.proofs.Common.{◌∙◌, List, ℕ, refl, ap, subst, arith}
-use Rattle.mum_io.specs.Outside.{Appends, AppendsFront}
-use Rattle.mum_lines.specs.Lines.{ReaderState}
+-- Each line that is taken goes on with what was reported; each way out says what was written.
+use Rattle.mum_server.proofs.Common.{◌∙◌, List, ℕ, refl, ap, subst, arith, Appends, AppendsFront, ReaderState}
 use Rattle.mum_server.proofs.Underway.{begins, breaks_given, closes, goes_given, halts, pauses_given, stops_too_long, stops_unended}
 use Rattle.mum_server.proofs.replay.replay_lines.Goals as goal
 

@@ -1,5 +1,4 @@
-use Rattle.std.proofs.Common.{◌≡◌, ◌+◌, ◌≤◌}
-use Rattle.mum_record.specs.declared.split.TheConstants.{INPUT_LIMIT}
+use Rattle.mum_server.proofs.Common.{◌≡◌, ◌+◌, ◌≤◌, INPUT_LIMIT}
 use Rattle.mum_server.proofs.Underway.{IsUnderway}
 use Rattle.mum_server.proofs.replay.replay_lines.Given as goal
 

@@ -1,5 +1,5 @@
 -- The step that the line says was taken.
-use Rattle.std.specs.Prelude.{string_bytes}
+use Rattle.mum_server.proofs.Common.{string_bytes}
 use Rattle.mum_server.proofs.Answered.{line_taken}
 use Rattle.mum_server.proofs.replay.take_line.Goals as goal
 

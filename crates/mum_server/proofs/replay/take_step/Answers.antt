@@ -1,5 +1,5 @@
 -- The step was allowed, and its lines are ended.
-use Rattle.std.specs.Prelude.{string_bytes}
+use Rattle.mum_server.proofs.Common.{string_bytes}
 use Rattle.mum_server.proofs.Told.{step_taken}
 use Rattle.mum_server.proofs.replay.take_step.Goals as goal
 

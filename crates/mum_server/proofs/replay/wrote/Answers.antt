@@ -1,6 +1,4 @@
-use Rattle.std.proofs.Common.{◌≡◌, ◌∙◌, ℕ, List, Result, Ok, Err, true, false, sym, subst}
-use Rattle.std.specs.Prelude.{OnOk, OnErr, is_ok, ⊤}
-use Rattle.mum_io.specs.Outside.{Appends, AppendsFront, Rose, WritesCount}
+use Rattle.mum_server.proofs.Common.{◌≡◌, ◌∙◌, ℕ, List, Result, Ok, Err, true, false, sym, subst, OnOk, OnErr, is_ok, ⊤, Appends, AppendsFront, Rose, WritesCount}
 use Rattle.mum_io.specs.declared.whole.WriteFault.{WriteFault}
 use Rattle.mum_server.proofs.replay.wrote.Goals as goal
 

@@ -1,13 +1,6 @@
 -- What is answered of a run without `serve` is what such a run answers.
-use Rattle.std.proofs.Common.{◌≡◌, map, refl, string_bytes}
-use Rattle.mum_io.specs.Counts.{Rose}
-use Rattle.mum_opening.specs.Opening.{document_edits}
-use Rattle.mum_serve.specs.Asked.{service}
-use Rattle.mum_serve.specs.Loading.{state_over}
-use Rattle.mum_serve.specs.declared.program.ServerEnd.TheVariants.{BadStore, KeeperFault}
-use Rattle.mum_server.proofs.KeeperEnds.{keeper_failed, rows_were_bad}
-use Rattle.mum_server.proofs.ServerStatuses.{bad_at_thirteen, fails_at_twelve, never_five}
-use Rattle.mum_server.proofs.ServeWords.{asked_once}
+use Rattle.mum_server.proofs.Common.{◌≡◌, map, refl, string_bytes, Rose, document_edits, service, state_over, BadStore, KeeperFault}
+use Rattle.mum_server.proofs.{KeeperEnds.keeper_failed, KeeperEnds.rows_were_bad, ServerStatuses.bad_at_thirteen, ServerStatuses.fails_at_twelve, ServerStatuses.never_five, ServeWords.asked_once}
 use Rattle.mum_server.proofs.top.murmur.Goals as goal
 
 pub returns-then-not-begins_with_serve-clause-plain : goal.returns-then-not-begins_with_serve-clause-plain

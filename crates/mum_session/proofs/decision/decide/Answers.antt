@@ -1,5 +1,5 @@
-use Rattle.mum_session.specs.declared.command.Asked.TheVariants as asked
 use Rattle.mum_session.proofs.Framed.{framed_so}
+use Rattle.mum_session.specs.declared.command.Asked.TheVariants as asked
 use Rattle.mum_session.proofs.decision.decide.Goals as goal
 
 pub returns-in-Tree-clause-framed : goal.returns-in-Tree-clause-framed

@@ -1,6 +1,4 @@
-use Rattle.std.proofs.Common.{◌∙◌, ap}
-use Rattle.mum_session.specs.declared.heard.Heard.TheVariants.{Message, Malformed, TooLong}
-use Rattle.mum_session.specs.Heard.{heard_map}
+use Rattle.mum_session.proofs.Common.{◌∙◌, ap, Message, Malformed, TooLong, heard_map}
 use Rattle.mum_session.proofs.Tables.{by_table}
 use Rattle.mum_session.proofs.heard.read_asked.Goals as goal
 

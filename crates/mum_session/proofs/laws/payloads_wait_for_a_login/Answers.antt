@@ -1,4 +1,4 @@
-use Rattle.std.proofs.Common.{refl}
+use Rattle.mum_session.proofs.Common.{refl}
 use Rattle.mum_session.proofs.Strangers.{unread, gone}
 use Rattle.mum_session.proofs.laws.payloads_wait_for_a_login.Goals as goal
 

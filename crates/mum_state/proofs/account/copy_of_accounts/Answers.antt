@@ -1,6 +1,4 @@
-use Rattle.std.proofs.Common.{◌∙◌, ◌++◌, List, [], ◌∷◌, ap, sym, take}
-use Rattle.std.proofs.lemmas.List.{take_more}
-use Rattle.mum_state.specs.declared.account.Account.{Account}
+use Rattle.mum_state.proofs.Common.{◌∙◌, ◌++◌, List, [], ◌∷◌, ap, sym, take, take_more, Account}
 use Rattle.mum_state.proofs.account.copy_of_accounts.Goals as goal
 
 pub loop-account-preserved : goal.loop-account-preserved

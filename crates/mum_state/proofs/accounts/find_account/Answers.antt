@@ -1,4 +1,4 @@
-use Rattle.std.proofs.Common.{ℕ, Some, get_or, refl, sym, ap, ◌∙◌}
+use Rattle.mum_state.proofs.Common.{ℕ, Some, get_or, refl, sym, ap, ◌∙◌}
 use Rattle.mum_state.proofs.Insertion.{find-at_place, find-no_place}
 use Rattle.mum_state.proofs.accounts.find_account.Goals as goal
 

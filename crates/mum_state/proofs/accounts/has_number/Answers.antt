@@ -1,9 +1,4 @@
-use Rattle.std.proofs.Common.{Ok, Err, ◌==◌, sym, rules}
-use Rattle.std.proofs.lemmas.Bool.{eq-eqb}
-use Rattle.std.proofs.lemmas.List.Sorted.{answers_always}
-use Rattle.std.proofs.lemmas.List.Folds.{list_any_at}
-use Rattle.mum_base.specs.declared.number.AccountId.{AccountId}
-use Rattle.mum_users.proofs.Search.{found_by_halving}
+use Rattle.mum_state.proofs.Common.{Ok, Err, ◌==◌, sym, rules, eq-eqb, answers_always, list_any_at, AccountId, found_by_halving}
 use Rattle.mum_state.proofs.Insertion.{none_of_number, numbers_rise}
 use Rattle.mum_state.proofs.accounts.has_number.Goals as goal
 

@@ -1,8 +1,4 @@
-use Rattle.std.proofs.Common.{[], rules}
-use Rattle.std.proofs.lemmas.List.Sorted.{IsPartitionPoint-from_clause}
-use Rattle.mum_users.proofs.Search.{parted, place_between}
-use Rattle.mum_state.specs.declared.account.Account.{Account}
-use Rattle.mum_state.specs.State.{account_below, is_before}
+use Rattle.mum_state.proofs.Common.{[], rules, IsPartitionPoint-from_clause, parted, place_between, Account, account_below, is_before}
 use Rattle.mum_state.proofs.Insertion.{names_down}
 use Rattle.mum_state.proofs.accounts.place_of.Goals as goal
 

@@ -1,7 +1,4 @@
-use Rattle.std.proofs.Common.{rules}
-use Rattle.std.proofs.lemmas.List.Sorted.{IsPartitionPoint-from_clause}
-use Rattle.mum_users.proofs.Search.{parted, place_between}
-use Rattle.mum_state.specs.Stored.{number_below}
+use Rattle.mum_state.proofs.Common.{rules, IsPartitionPoint-from_clause, parted, place_between, number_below}
 use Rattle.mum_state.proofs.Insertion.{numbers_down}
 use Rattle.mum_state.proofs.accounts.place_of_number.Goals as goal
 

@@ -1,4 +1,4 @@
-use Rattle.std.proofs.Common.{◌∙◌, ℕ, List, insert, ap}
+use Rattle.mum_state.proofs.Common.{◌∙◌, ℕ, List, insert, ap}
 use Rattle.mum_state.proofs.Insertion.{inserted_is, place_for}
 use Rattle.mum_state.proofs.accounts.put_account.Goals as goal
 

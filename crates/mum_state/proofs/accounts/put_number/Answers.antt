@@ -1,4 +1,4 @@
-use Rattle.std.proofs.Common.{◌∙◌, ℕ, insert, ap}
+use Rattle.mum_state.proofs.Common.{◌∙◌, ℕ, insert, ap}
 use Rattle.mum_state.proofs.Insertion.{place_of}
 use Rattle.mum_state.proofs.accounts.put_number.Goals as goal
 

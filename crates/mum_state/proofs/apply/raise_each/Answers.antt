@@ -1,6 +1,4 @@
-use Rattle.std.proofs.Common.{◌∙◌, ◌<◌, ◌++◌, ℕ, Bool, List, drop, get_or, length, set, take, ap, sym, arith, zero-add}
-use Rattle.mum_state.specs.Counts.{raised_slots, raised_where}
-use Rattle.mum_state.specs.Renewed.{is_renewed_slot}
+use Rattle.mum_state.proofs.Common.{◌∙◌, ◌<◌, ◌++◌, ℕ, Bool, List, drop, get_or, length, set, take, ap, sym, arith, zero-add, raised_slots, raised_where, is_renewed_slot}
 use Rattle.mum_state.proofs.Marking.{set-raised}
 use Rattle.mum_state.proofs.apply.raise_each.Goals as goal
 

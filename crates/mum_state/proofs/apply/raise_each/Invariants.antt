@@ -1,6 +1,4 @@
-use Rattle.std.proofs.Common.{◌≡◌, ◌++◌, drop, take}
-use Rattle.mum_state.specs.Counts.{raised_slots}
-use Rattle.mum_state.specs.Renewed.{is_renewed_slot}
+use Rattle.mum_state.proofs.Common.{◌≡◌, ◌++◌, drop, take, raised_slots, is_renewed_slot}
 use Rattle.mum_state.proofs.apply.raise_each.Given as goal
 
 abbrev pub invariant-loop-slot : goal.invariant-loop-slot

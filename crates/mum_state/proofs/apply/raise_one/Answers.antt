@@ -1,4 +1,4 @@
-use Rattle.std.proofs.Common.{◌∙◌, ◌<◌, ℕ, length, set, ap, arith}
+use Rattle.mum_state.proofs.Common.{◌∙◌, ◌<◌, ℕ, length, set, ap, arith}
 use Rattle.mum_state.proofs.Marking.{one_beyond, one_raised}
 use Rattle.mum_state.proofs.apply.raise_one.Goals as goal
 

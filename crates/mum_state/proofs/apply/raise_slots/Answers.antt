@@ -1,7 +1,4 @@
-use Rattle.std.proofs.Common.{◌∙◌, ap, sym}
-use Rattle.mum_state.specs.declared.renewed.Renewed.{Renewed}
-use Rattle.mum_state.specs.Counts.{raised_slots}
-use Rattle.mum_state.specs.Renewed.{is_renewed_slot}
+use Rattle.mum_state.proofs.Common.{◌∙◌, ap, sym, Renewed, raised_slots, is_renewed_slot}
 use Rattle.mum_state.proofs.Marking.{nobody_raised}
 use Rattle.mum_state.proofs.apply.raise_slots.Goals as goal
 

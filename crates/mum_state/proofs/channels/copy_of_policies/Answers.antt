@@ -1,6 +1,4 @@
-use Rattle.std.proofs.Common.{◌∙◌, ◌++◌, List, [], ◌∷◌, ap, sym, take}
-use Rattle.std.proofs.lemmas.List.{take_more}
-use Rattle.mum_policy.specs.declared.policy.ChannelPolicy.{ChannelPolicy}
+use Rattle.mum_state.proofs.Common.{◌∙◌, ◌++◌, List, [], ◌∷◌, ap, sym, take, take_more, ChannelPolicy}
 use Rattle.mum_state.proofs.channels.copy_of_policies.Goals as goal
 
 pub loop-policy-preserved : goal.loop-policy-preserved

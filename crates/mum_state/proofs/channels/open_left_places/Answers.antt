@@ -1,4 +1,4 @@
-use Rattle.std.proofs.Common.{◌∙◌, ◌&&◌, not, false, get_or, ap, arith}
+use Rattle.mum_state.proofs.Common.{◌∙◌, ◌&&◌, not, false, get_or, ap, arith}
 use Rattle.mum_state.proofs.Governed.{opened_all, opened_more, opened_none}
 use Rattle.mum_state.proofs.channels.open_left_places.Goals as goal
 

@@ -1,6 +1,4 @@
-use Rattle.std.proofs.Common.{◌∙◌, ◌+◌, ◌++◌, ℕ, List, [], ◌∷◌, ap, get_or, length, length-append}
-use Rattle.mum_policy.specs.declared.policy.ChannelPolicy.{ChannelPolicy}
-use Rattle.mum_state.specs.State.{open_policy}
+use Rattle.mum_state.proofs.Common.{◌∙◌, ◌+◌, ◌++◌, ℕ, List, [], ◌∷◌, ap, get_or, length, length-append, ChannelPolicy, open_policy}
 use Rattle.mum_state.proofs.Governed.{open_pushed}
 use Rattle.mum_state.proofs.channels.open_policies.Goals as goal
 

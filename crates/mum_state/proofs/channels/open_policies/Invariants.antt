@@ -1,5 +1,4 @@
-use Rattle.std.proofs.Common.{◌≡◌, ℕ, get_or, length}
-use Rattle.mum_state.specs.State.{open_policy}
+use Rattle.mum_state.proofs.Common.{◌≡◌, ℕ, get_or, length, open_policy}
 use Rattle.mum_state.proofs.channels.open_policies.Given as goal
 
 abbrev pub invariant-loop-place : goal.invariant-loop-place

@@ -1,7 +1,4 @@
-use Rattle.std.proofs.Common.{◌≡◌, ◌<◌, get_or, length, refl, ap, arith}
-use Rattle.mum_base.specs.declared.number.TheConstants.{SLOTS}
-use Rattle.mum_tree.specs.Rows.{is_below}
-use Rattle.mum_users.specs.declared.user.User.{User}
+use Rattle.mum_state.proofs.Common.{◌≡◌, ◌<◌, get_or, length, refl, ap, arith, SLOTS, is_below, User}
 use Rattle.mum_state.proofs.Marking.{marked_more, none_marked, slots_within}
 use Rattle.mum_state.proofs.followed.slots_below.Goals as goal
 

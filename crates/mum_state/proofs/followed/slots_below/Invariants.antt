@@ -1,8 +1,4 @@
-use Rattle.std.proofs.Common.{◌≡◌, ◌==◌, ◌&&◌, ℕ, false, get_or, length, take}
-use Rattle.std.specs.List.{list_any}
-use Rattle.mum_base.specs.declared.number.TheConstants.{SLOTS}
-use Rattle.mum_tree.specs.Rows.{is_below}
-use Rattle.mum_users.specs.declared.user.User.{User}
+use Rattle.mum_state.proofs.Common.{◌≡◌, ◌==◌, ◌&&◌, ℕ, false, get_or, length, take, list_any, SLOTS, is_below, User}
 use Rattle.mum_state.proofs.followed.slots_below.Given as goal
 
 abbrev pub invariant-loop-user : goal.invariant-loop-user

@@ -1,10 +1,9 @@
 use Rattle.std.proofs.Common.{rules, ◌≡◌, None, ap, sym, ◌∙◌}
 use Rattle.std.proofs.lemmas.Result.{on_ok_weaker}
-use Rattle.mum_state.specs.declared.edit.Edit.{Edit}
-use Rattle.mum_state.specs.declared.edit.Edit.TheVariants.{SetServer}
+use Rattle.mum_state.specs.declared.edit.Edit.{Edit, TheVariants.SetServer}
 use Rattle.mum_state.specs.Applied.{applied}
+use Rattle.mum_published.proofs.Public.{kept_up}
 use Rattle.mum_published.specs.Calls.{latest}
-use Rattle.mum_published.proofs.Latest.{kept_up}
 use Rattle.mum_tests.proofs.published.append_bandwidth.Goals as goal
 
 -- the copy took the edit before the publisher did

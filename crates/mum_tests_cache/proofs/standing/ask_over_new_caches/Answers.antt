@@ -1,7 +1,5 @@
 use Rattle.std.proofs.Common.{IfOk, ◌≡◌, subst, sym}
-use Rattle.mum_cache.specs.Caches.{AreSound}
-use Rattle.mum_cache.specs.Perms.{ArePermsSound, no_perms}
-use Rattle.mum_cache.specs.Routes.{AreRoutesSound, no_routes}
+use Rattle.mum_cache.specs.{Caches.AreSound, Perms.ArePermsSound, Perms.no_perms, Routes.AreRoutesSound, Routes.no_routes}
 use Rattle.mum_tests_cache.proofs.standing.ask_over_new_caches.Goals as goal
 
 pub ask-requires-clause-sound : goal.ask-requires-clause-sound

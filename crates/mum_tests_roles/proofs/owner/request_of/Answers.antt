@@ -1,6 +1,6 @@
 use Rattle.std.proofs.Common.{inl, subst}
+use Rattle.mum_port.proofs.Public.{asks-as_heard}
 use Rattle.mum_port.specs.Asked.{AsksAsHeard}
-use Rattle.mum_port.proofs.Asking.{asks-as_heard}
 use Rattle.mum_tests_roles.proofs.owner.request_of.Goals as goal
 
 -- it is asked for by this frame

@@ -1,4 +1,4 @@
-use Rattle.std.proofs.Common.{◌∙◌, ◌<◌, ◌≤◌, length, get_or, arith, length-set}
+use Rattle.mum_tree.proofs.Common.{◌∙◌, ◌<◌, ◌≤◌, length, get_or, arith, length-set}
 use Rattle.mum_tree.proofs.Numbered.{descends_set, halved}
 use Rattle.mum_tree.proofs.components.find_first.Goals as goal
 

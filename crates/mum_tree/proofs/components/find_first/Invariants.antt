@@ -1,5 +1,4 @@
-use Rattle.std.proofs.Common.{◌≡◌, ℕ, ◌≤◌, length}
-use Rattle.mum_tree.specs.Components.{Descends, IsForest}
+use Rattle.mum_tree.proofs.Common.{◌≡◌, ℕ, ◌≤◌, length, Descends, IsForest}
 use Rattle.mum_tree.proofs.components.find_first.Given as goal
 
 abbrev pub invariant-loop-numbers : goal.invariant-loop-numbers

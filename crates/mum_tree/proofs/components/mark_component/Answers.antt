@@ -1,4 +1,4 @@
-use Rattle.std.proofs.Common.{◌∙◌, eqb, get_or, ap, sym}
+use Rattle.mum_tree.proofs.Common.{◌∙◌, eqb, get_or, ap, sym}
 use Rattle.mum_tree.proofs.Numbered.{before_more, few_more, marked_more}
 use Rattle.mum_tree.proofs.components.mark_component.Goals as goal
 

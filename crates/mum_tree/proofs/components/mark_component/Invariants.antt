@@ -1,6 +1,4 @@
-use Rattle.std.proofs.Common.{◌≡◌, ℕ, ◌<◌, ◌≤◌, Bool, eqb, length, get_or, map, take}
-use Rattle.std.specs.List.{filter}
-use Rattle.mum_tree.specs.declared.channel.Row.{Row}
+use Rattle.mum_tree.proofs.Common.{◌≡◌, ℕ, ◌<◌, ◌≤◌, Bool, eqb, length, get_or, map, take, filter, Row}
 use Rattle.mum_tree.proofs.Numbered.{AreBefore}
 use Rattle.mum_tree.proofs.components.mark_component.Given as goal
 

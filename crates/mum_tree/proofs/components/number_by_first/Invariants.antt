@@ -1,5 +1,4 @@
-use Rattle.std.proofs.Common.{◌≡◌, ℕ, ◌<◌, ◌≤◌, length, get_or}
-use Rattle.mum_tree.specs.Components.{IsForest}
+use Rattle.mum_tree.proofs.Common.{◌≡◌, ℕ, ◌<◌, ◌≤◌, length, get_or, IsForest}
 use Rattle.mum_tree.proofs.components.number_by_first.Given as goal
 
 abbrev pub invariant-loop-at : goal.invariant-loop-at

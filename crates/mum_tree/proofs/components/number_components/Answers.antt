@@ -1,5 +1,4 @@
-use Rattle.std.proofs.Common.{◌∙◌, List, ℕ, length, ap, sym, subst}
-use Rattle.mum_tree.specs.Components.{AreComponents}
+use Rattle.mum_tree.proofs.Common.{◌∙◌, List, ℕ, length, ap, sym, subst, AreComponents}
 use Rattle.mum_tree.proofs.Numbered.{put_back}
 use Rattle.mum_tree.proofs.components.number_components.Goals as goal
 

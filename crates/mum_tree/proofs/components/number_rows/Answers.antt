@@ -1,4 +1,4 @@
-use Rattle.std.proofs.Common.{◌≡◌, ◌∙◌, length, arith}
+use Rattle.mum_tree.proofs.Common.{◌≡◌, ◌∙◌, length, arith}
 use Rattle.mum_tree.proofs.Numbered.{components_found}
 use Rattle.mum_tree.proofs.components.number_rows.Goals as goal
 

@@ -1,6 +1,5 @@
-use Rattle.std.proofs.Common.{◌∙◌, ◌≤◌, ◌+◌, Bool, cond, refl, sym, subst, vec_capacity, vec_len}
-use Rattle.mum_tree.proofs.Numbered.{numbered_as_seen, pairs_seen}
-use Rattle.mum_tree.proofs.Relinked.{none_named}
+use Rattle.mum_tree.proofs.Common.{◌∙◌, ◌≤◌, ◌+◌, Bool, cond, refl, sym, subst, vec_capacity, vec_len}
+use Rattle.mum_tree.proofs.{Numbered.numbered_as_seen, Numbered.pairs_seen, Relinked.none_named}
 use Rattle.mum_tree.proofs.components.relink.Goals as goal
 
 pub returns-then-names_no_links-clause-made : goal.returns-then-names_no_links-clause-made

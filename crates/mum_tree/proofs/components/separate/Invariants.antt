@@ -1,4 +1,4 @@
-use Rattle.std.proofs.Common.{◌≡◌, ℕ, ◌<◌, length, get_or}
+use Rattle.mum_tree.proofs.Common.{◌≡◌, ℕ, ◌<◌, length, get_or}
 use Rattle.mum_tree.proofs.components.separate.Given as goal
 
 abbrev pub invariant-loop-at : goal.invariant-loop-at

@@ -1,4 +1,4 @@
-use Rattle.std.proofs.Common.{◌≡◌, ◌<◌, ◌≤◌, length, arith}
+use Rattle.mum_tree.proofs.Common.{◌≡◌, ◌<◌, ◌≤◌, length, arith}
 use Rattle.mum_tree.proofs.Numbered.{joined_forest, united_above, united_below}
 use Rattle.mum_tree.proofs.components.unite.Goals as goal
 

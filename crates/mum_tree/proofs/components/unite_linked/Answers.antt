@@ -1,7 +1,4 @@
-use Rattle.std.proofs.Common.{◌∙◌, get_or, refl}
-use Rattle.std.proofs.lemmas.List.{get_or_default}
-use Rattle.mum_tree.specs.Components.{united}
-use Rattle.mum_tree.specs.State.{Pair}
+use Rattle.mum_tree.proofs.Common.{◌∙◌, get_or, refl, get_or_default, united, Pair}
 use Rattle.mum_tree.proofs.Numbered.{forest_alone, united_more, united_none}
 use Rattle.mum_tree.proofs.components.unite_linked.Goals as goal
 

@@ -1,5 +1,4 @@
-use Rattle.std.proofs.Common.{◌≡◌, ℕ, length}
-use Rattle.mum_tree.specs.Components.{AreUnited, Descends, IsForest}
+use Rattle.mum_tree.proofs.Common.{◌≡◌, ℕ, length, AreUnited, Descends, IsForest}
 use Rattle.mum_tree.proofs.components.unite_linked.Given as goal
 
 abbrev pub invariant-loop-link : goal.invariant-loop-link

@@ -1,11 +1,5 @@
-use Rattle.std.proofs.Common.{◌≡◌, ◌+◌, ◌<◌, ℕ, Some, None, length, get_or, arith, ap, subst, ◌∙◌}
-use Rattle.std.specs.Option.{option_map}
-use Rattle.std.proofs.lemmas.List.{get_or_read}
-use Rattle.mum_base.specs.declared.number.ChannelId.{ChannelId}
-use Rattle.mum_tree.specs.declared.channel.Row.{Row}
-use Rattle.mum_tree.specs.Rows.{level, upward}
-use Rattle.mum_tree.proofs.Depths.{level_at_root, level_at_top, level_short, level_under, levels_set, parent_there, row_found, way_shorter}
-use Rattle.mum_tree.proofs.Start.{root_row}
+use Rattle.mum_tree.proofs.Common.{◌≡◌, ◌+◌, ◌<◌, ℕ, Some, None, length, get_or, arith, ap, subst, ◌∙◌, option_map, get_or_read, ChannelId, Row, level, upward}
+use Rattle.mum_tree.proofs.{Depths.level_at_root, Depths.level_at_top, Depths.level_short, Depths.level_under, Depths.levels_set, Depths.parent_there, Depths.row_found, Depths.way_shorter, Start.root_row}
 use Rattle.mum_tree.proofs.levels.+find_level.Goals as goal
 
 pub returns-then-row-top-clause-value : goal.returns-then-row-top-clause-value

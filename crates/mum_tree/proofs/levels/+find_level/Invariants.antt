@@ -1,5 +1,4 @@
-use Rattle.std.proofs.Common.{get_or, length}
-use Rattle.mum_tree.specs.Rows.{upward}
+use Rattle.mum_tree.proofs.Common.{get_or, length, upward}
 use Rattle.mum_tree.proofs.Start.{root_row}
 use Rattle.mum_tree.proofs.levels.+find_level.Given as goal
 

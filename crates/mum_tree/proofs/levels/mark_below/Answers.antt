@@ -1,12 +1,5 @@
-use Rattle.std.proofs.Common.{◌<◌, ◌∙◌, List, length, get_or, refl, arith, ap, sym, subst}
-use Rattle.std.specs.List.{All}
-use Rattle.std.specs.Option.{is_some}
-use Rattle.mum_base.specs.declared.number.ChannelId.{ChannelId}
-use Rattle.mum_tree.specs.declared.channel.Row.{Row}
-use Rattle.mum_tree.specs.Rows.{is_below, level}
-use Rattle.mum_tree.proofs.Climb.{some_level}
-use Rattle.mum_tree.proofs.Depths.{levels_none}
-use Rattle.mum_tree.proofs.Numbered.{before_more, few_more, marked_more}
+use Rattle.mum_tree.proofs.Common.{◌<◌, ◌∙◌, List, length, get_or, refl, arith, ap, sym, subst, All, is_some, ChannelId, Row, is_below, level}
+use Rattle.mum_tree.proofs.{Climb.some_level, Depths.levels_none, Numbered.before_more, Numbered.few_more, Numbered.marked_more}
 use Rattle.mum_tree.proofs.levels.mark_below.Goals as goal
 
 pub loop-at-init : goal.loop-at-init

@@ -1,7 +1,4 @@
-use Rattle.std.proofs.Common.{◌≡◌, ◌≤◌, length, map, take}
-use Rattle.std.specs.List.{filter}
-use Rattle.mum_tree.specs.declared.channel.Row.{Row}
-use Rattle.mum_tree.specs.Rows.{is_below, AreLevels}
+use Rattle.mum_tree.proofs.Common.{◌≡◌, ◌≤◌, length, map, take, filter, Row, is_below, AreLevels}
 use Rattle.mum_tree.proofs.Numbered.{AreBefore}
 use Rattle.mum_tree.proofs.levels.mark_below.Given as goal
 

@@ -1,8 +1,5 @@
-use Rattle.std.proofs.Common.{◌≡◌, ◌||◌, ◌∙◌, Bool, true, false, get_or, refl, ap, arith, sym}
-use Rattle.std.proofs.lemmas.List.Folds.{list_any_at, list_any_more}
-use Rattle.mum_tree.specs.Rows.{nests}
-use Rattle.mum_tree.proofs.Depths.{levels_none, nests_by_level}
-use Rattle.mum_tree.proofs.Start.{root_row}
+use Rattle.mum_tree.proofs.Common.{◌≡◌, ◌||◌, ◌∙◌, Bool, true, false, get_or, refl, ap, arith, sym, list_any_at, list_any_more, nests}
+use Rattle.mum_tree.proofs.{Depths.levels_none, Depths.nests_by_level, Start.root_row}
 use Rattle.mum_tree.proofs.levels.nests_too_deep.Goals as goal
 
 pub returns-then-is_too_deep : goal.returns-then-is_too_deep

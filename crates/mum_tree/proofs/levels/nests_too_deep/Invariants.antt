@@ -1,6 +1,4 @@
-use Rattle.std.proofs.Common.{◌≡◌, false, length, take}
-use Rattle.std.specs.List.{list_any}
-use Rattle.mum_tree.specs.Rows.{nests, AreLevels}
+use Rattle.mum_tree.proofs.Common.{◌≡◌, false, length, take, list_any, nests, AreLevels}
 use Rattle.mum_tree.proofs.levels.nests_too_deep.Given as goal
 
 abbrev pub invariant-loop-at : goal.invariant-loop-at

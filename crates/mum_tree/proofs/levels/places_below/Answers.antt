@@ -1,10 +1,5 @@
-use Rattle.std.proofs.Common.{◌≡◌, ◌<◌, ◌∙◌, false, length, get_or, refl, arith, ap, sym, length-set}
-use Rattle.std.specs.Option.{is_some}
-use Rattle.mum_tree.specs.declared.channel.Row.{Row}
-use Rattle.mum_tree.specs.Rows.{is_below, level}
-use Rattle.mum_tree.proofs.Climb.{some_level}
-use Rattle.mum_tree.proofs.Depths.{levels_none}
-use Rattle.mum_tree.proofs.Places.{placement_more}
+use Rattle.mum_tree.proofs.Common.{◌≡◌, ◌<◌, ◌∙◌, false, length, get_or, refl, arith, ap, sym, length-set, is_some, Row, is_below, level}
+use Rattle.mum_tree.proofs.{Climb.some_level, Depths.levels_none, Places.placement_more}
 use Rattle.mum_tree.proofs.levels.places_below.Goals as goal
 
 pub loop-at-init : goal.loop-at-init

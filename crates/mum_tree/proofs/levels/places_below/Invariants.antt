@@ -1,6 +1,4 @@
-use Rattle.std.proofs.Common.{◌≡◌, ℕ, ◌<◌, false, length, get_or}
-use Rattle.mum_tree.specs.declared.channel.Row.{Row}
-use Rattle.mum_tree.specs.Rows.{is_below, AreLevels}
+use Rattle.mum_tree.proofs.Common.{◌≡◌, ℕ, ◌<◌, false, length, get_or, Row, is_below, AreLevels}
 use Rattle.mum_tree.proofs.levels.places_below.Given as goal
 
 abbrev pub invariant-loop-at : goal.invariant-loop-at

@@ -1,11 +1,6 @@
-use Rattle.std.proofs.Common.{◌≡◌, ◌∙◌, ◌&&◌, ◌+◌, Bool, true, not, eqb, false, List, get_or, arith, ap, sym, subst, vec_capacity, vec_len}
-use Rattle.mum_base.specs.Channels.{is_among}
-use Rattle.mum_tree.specs.declared.channel.Row.{Row}
-use Rattle.mum_tree.specs.State.{Pair}
-use Rattle.mum_tree.proofs.Partners.{linked_in}
-use Rattle.mum_tree.proofs.Relinked.{after_test, came_after, room_here, room_more, settled_all, settled_more, settled_none, AreSettled}
+use Rattle.mum_tree.proofs.Common.{◌≡◌, ◌∙◌, ◌&&◌, ◌+◌, Bool, true, not, eqb, false, List, get_or, arith, ap, sym, subst, vec_capacity, vec_len, is_among, Row, Pair}
+use Rattle.mum_tree.proofs.{Partners.linked_in, Relinked.after_test, Relinked.came_after, Relinked.room_here, Relinked.room_more, Relinked.settled_all, Relinked.settled_more, Relinked.settled_none, Relinked.AreSettled, links.change_links.Goals.After-has_mark-goes}
 use Rattle.mum_tree.proofs.links.change_links.Goals as goal
-use Rattle.mum_tree.proofs.links.change_links.Goals.{After-has_mark-goes}
 
 came : (c : After-has_mark-goes) → c.has_mark-comes.result ≡ is_among c.args.adds.now c.row-item.result.channel.id
 came c =

@@ -1,6 +1,4 @@
-use Rattle.std.proofs.Common.{◌+◌, ◌*◌, ◌≤◌, take, vec_capacity, vec_len}
-use Rattle.std.specs.List.{count_by}
-use Rattle.mum_tree.specs.declared.channel.Row.{Row}
+use Rattle.mum_tree.proofs.Common.{◌+◌, ◌*◌, ◌≤◌, take, vec_capacity, vec_len, count_by, Row}
 use Rattle.mum_tree.proofs.Relinked.{after_test, AreSettled}
 use Rattle.mum_tree.proofs.links.change_links.Given as goal
 

@@ -1,4 +1,4 @@
-use Rattle.std.proofs.Common.{◌∙◌}
+use Rattle.mum_tree.proofs.Common.{◌∙◌}
 use Rattle.mum_tree.proofs.LinkSearch.{found_by_binary_search}
 use Rattle.mum_tree.proofs.links.has_link.Goals as goal
 

@@ -1,7 +1,4 @@
-use Rattle.std.proofs.Common.{◌∙◌, List, ap, sym, subst}
-use Rattle.std.specs.List.{list_any}
-use Rattle.mum_tree.specs.State.{Pair, Ordered, is_pair}
-use Rattle.mum_tree.specs.Proper.{AreBothWays}
+use Rattle.mum_tree.proofs.Common.{◌∙◌, List, ap, sym, subst, list_any, Pair, Ordered, is_pair, AreBothWays}
 use Rattle.mum_tree.proofs.Joined.{both_made, ordered_made}
 use Rattle.mum_tree.proofs.links.join.Goals as goal
 

@@ -1,7 +1,6 @@
-use Rattle.std.proofs.Common.{◌∙◌, ◌<◌, length, sym, arith}
-use Rattle.std.proofs.lemmas.List.Filters.{FiltersInPlace-more_no, FiltersInPlace-more_set}
-use Rattle.mum_tree.proofs.links.keep_ends.Goals as goal
+use Rattle.mum_tree.proofs.Common.{◌∙◌, ◌<◌, length, sym, arith, FiltersInPlace-more_no, FiltersInPlace-more_set}
 use Rattle.mum_tree.proofs.links.keep_ends.Goals.{then-both_there, else-both_there}
+use Rattle.mum_tree.proofs.links.keep_ends.Goals as goal
 
 pub loop-at-preserved : goal.loop-at-preserved
 loop-at-preserved c =

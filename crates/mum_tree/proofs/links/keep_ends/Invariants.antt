@@ -1,7 +1,4 @@
-use Rattle.std.proofs.Common.{◌&&◌}
-use Rattle.std.proofs.lemmas.List.Filters.{FiltersInPlace}
-use Rattle.mum_tree.specs.Rows.{is_there}
-use Rattle.mum_tree.specs.State.{Pair}
+use Rattle.mum_tree.proofs.Common.{◌&&◌, FiltersInPlace, is_there, Pair}
 use Rattle.mum_tree.proofs.links.keep_ends.Given as goal
 
 abbrev pub invariant-loop-at : goal.invariant-loop-at

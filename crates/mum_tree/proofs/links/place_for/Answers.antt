@@ -1,8 +1,4 @@
-use Rattle.std.proofs.Common.{not, arith}
-use Rattle.std.proofs.lemmas.Bool.{not-false, not-true}
-use Rattle.std.proofs.lemmas.Bool.Decides.{nat_tests}
-use Rattle.std.proofs.lemmas.List.Sorted.{IsPartitionPoint-from_clause}
-use Rattle.mum_tree.specs.State.{Pair, is_above}
+use Rattle.mum_tree.proofs.Common.{not, arith, not-false, not-true, nat_tests, IsPartitionPoint-from_clause, Pair, is_above}
 use Rattle.mum_tree.proofs.LinkSearch.{above_parted}
 use Rattle.mum_tree.proofs.links.place_for.Goals as goal
 

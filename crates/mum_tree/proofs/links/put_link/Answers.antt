@@ -1,7 +1,5 @@
-use Rattle.std.proofs.Common.{◌∙◌, sym, subst}
-use Rattle.mum_tree.specs.State.{Ordered}
-use Rattle.mum_tree.proofs.Linking.{joined, left_by_ok, put_in}
-use Rattle.mum_tree.proofs.Joined.{ordered_more}
+use Rattle.mum_tree.proofs.Common.{◌∙◌, sym, subst, Ordered}
+use Rattle.mum_tree.proofs.{Linking.joined, Linking.left_by_ok, Linking.put_in, Joined.ordered_more}
 use Rattle.mum_tree.proofs.links.put_link.Goals as goal
 
 pub place_for-at-requires-2 : goal.place_for-at-requires-2

@@ -1,8 +1,4 @@
-use Rattle.std.proofs.Common.{◌∙◌, ◌||◌, not, Bool, List, ap, sym, subst, rules}
-use Rattle.std.specs.List.{list_any}
-use Rattle.std.proofs.lemmas.Fn.{filter_same}
-use Rattle.mum_tree.specs.State.{Pair, Ordered, is_pair}
-use Rattle.mum_tree.specs.Proper.{AreBothWays}
+use Rattle.mum_tree.proofs.Common.{◌∙◌, ◌||◌, not, Bool, List, ap, sym, subst, rules, list_any, filter_same, Pair, Ordered, is_pair, AreBothWays}
 use Rattle.mum_tree.proofs.Joined.{both_parted, ordered_parted, parted_none}
 use Rattle.mum_tree.proofs.links.take_link.Goals as goal
 

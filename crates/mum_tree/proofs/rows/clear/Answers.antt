@@ -1,4 +1,4 @@
-use Rattle.std.proofs.Common.{◌∙◌, false, replicate, ap}
+use Rattle.mum_tree.proofs.Common.{◌∙◌, false, replicate, ap}
 use Rattle.mum_tree.proofs.rows.clear.Goals as goal
 
 pub returns : goal.returns

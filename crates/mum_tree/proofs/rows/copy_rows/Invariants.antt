@@ -1,4 +1,4 @@
-use Rattle.std.proofs.Common.{◌≡◌, take}
+use Rattle.mum_tree.proofs.Common.{◌≡◌, take}
 use Rattle.mum_tree.proofs.rows.copy_rows.Given as goal
 
 abbrev pub invariant-loop-row : goal.invariant-loop-row

@@ -1,10 +1,4 @@
-use Rattle.std.proofs.Common.{◌≡◌, ◌-◌, ◌<◌, ◌++◌, ◌∷◌, [], true, eqb, length, reverse, List, Some, arith, ap, sym, subst, ◌∙◌}
-use Rattle.std.specs.List.{Contains}
-use Rattle.std.specs.Option.{is_some}
-use Rattle.std.proofs.lemmas.Bool.{eqb-true, eqb-false, eq-eqb}
-use Rattle.std.proofs.lemmas.List.{take_at, length-reverse}
-use Rattle.mum_base.specs.declared.number.ChannelId.{ChannelId}
-use Rattle.mum_tree.specs.Rows.{row_of, upward}
+use Rattle.mum_tree.proofs.Common.{◌≡◌, ◌-◌, ◌<◌, ◌++◌, ◌∷◌, [], true, eqb, length, reverse, List, Some, arith, ap, sym, subst, ◌∙◌, Contains, is_some, eqb-true, eqb-false, eq-eqb, take_at, length-reverse, ChannelId, row_of, upward}
 use Rattle.mum_tree.proofs.Upward.{the_root, step_up, step_end, step_lead, lead_none, there_from_way, upward_missing, way_ends}
 use Rattle.mum_tree.proofs.rows.find_path.Goals as goal
 

@@ -1,7 +1,4 @@
-use Rattle.std.proofs.Common.{◌≡◌, ◌≤◌, ◌-◌, ◌++◌, length}
-use Rattle.std.specs.Bool.{IsTrue}
-use Rattle.std.specs.List.{Contains}
-use Rattle.mum_tree.specs.Rows.{is_there, upward}
+use Rattle.mum_tree.proofs.Common.{◌≡◌, ◌≤◌, ◌-◌, ◌++◌, length, IsTrue, Contains, is_there, upward}
 use Rattle.mum_tree.proofs.rows.find_path.Given as goal
 
 abbrev pub invariant-loop-channels : goal.invariant-loop-channels

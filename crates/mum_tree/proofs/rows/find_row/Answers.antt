@@ -1,5 +1,4 @@
-use Rattle.std.proofs.Common.{Some, ap, sym, ◌∙◌}
-use Rattle.mum_tree.specs.declared.channel.Row.{Row}
+use Rattle.mum_tree.proofs.Common.{Some, ap, sym, ◌∙◌, Row}
 use Rattle.mum_tree.proofs.Changed.{number_found}
 use Rattle.mum_tree.proofs.rows.find_row.Goals as goal
 

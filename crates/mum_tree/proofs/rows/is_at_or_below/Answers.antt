@@ -1,5 +1,4 @@
-use Rattle.std.proofs.Common.{ap, ◌∙◌}
-use Rattle.std.specs.Option.{is_some}
+use Rattle.mum_tree.proofs.Common.{ap, ◌∙◌, is_some}
 use Rattle.mum_tree.proofs.Climb.{some_level}
 use Rattle.mum_tree.proofs.rows.is_at_or_below.Goals as goal
 

@@ -1,4 +1,4 @@
-use Rattle.std.proofs.Common.{arith}
+use Rattle.mum_tree.proofs.Common.{arith}
 use Rattle.mum_tree.proofs.Places.{count_all, least_is}
 use Rattle.mum_tree.proofs.rows.least_free_place.Goals as goal
 

@@ -1,4 +1,4 @@
-use Rattle.std.proofs.Common.{◌≡◌, ℕ, ◌<◌, true, false, get_or}
+use Rattle.mum_tree.proofs.Common.{◌≡◌, ℕ, ◌<◌, true, false, get_or}
 use Rattle.mum_tree.proofs.rows.least_free_place.Given as goal
 
 abbrev pub invariant-loop-place : goal.invariant-loop-place

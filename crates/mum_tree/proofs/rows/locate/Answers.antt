@@ -1,6 +1,4 @@
-use Rattle.std.proofs.Common.{rules}
-use Rattle.std.proofs.lemmas.List.Sorted.{answers_always}
-use Rattle.mum_tree.specs.Rows.{number}
+use Rattle.mum_tree.proofs.Common.{rules, answers_always, number}
 use Rattle.mum_tree.proofs.Search.{located}
 use Rattle.mum_tree.proofs.rows.locate.Goals as goal
 

@@ -1,7 +1,4 @@
-use Rattle.std.proofs.Common.{◌≡◌, ◌<◌, ◌∙◌, Bool, true, false, List, length, get_or, arith, refl, ap, length-set}
-use Rattle.std.proofs.lemmas.List.{get_or_default, take_all}
-use Rattle.mum_tree.specs.declared.channel.Row.{Row}
-use Rattle.mum_base.specs.Channels.{is_among}
+use Rattle.mum_tree.proofs.Common.{◌≡◌, ◌<◌, ◌∙◌, Bool, true, false, List, length, get_or, arith, refl, ap, length-set, get_or_default, take_all, Row, is_among}
 use Rattle.mum_tree.proofs.Marks.{mark_more, none_marked}
 use Rattle.mum_tree.proofs.rows.places_of.Goals as goal
 

@@ -1,6 +1,4 @@
-use Rattle.std.proofs.Common.{◌≡◌, false, length, get_or, take}
-use Rattle.std.specs.List.{All}
-use Rattle.mum_base.specs.Channels.{is_among}
+use Rattle.mum_tree.proofs.Common.{◌≡◌, false, length, get_or, take, All, is_among}
 use Rattle.mum_tree.proofs.rows.places_of.Given as goal
 
 abbrev pub invariant-loop-id : goal.invariant-loop-id

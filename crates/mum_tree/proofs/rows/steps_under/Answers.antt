@@ -1,9 +1,5 @@
-use Rattle.std.proofs.Common.{◌≡◌, ◌+◌, ◌-◌, ◌<◌, ℕ, Some, arith, ap, sym, ◌∙◌}
-use Rattle.std.specs.List.{position}
-use Rattle.std.specs.Option.{option_map}
-use Rattle.mum_tree.specs.Rows.{level, upward}
-use Rattle.mum_tree.proofs.Climb.{add_none, add_one_more, climb_done, climb_missing, climb_on, climb_root, climb_top}
-use Rattle.mum_tree.proofs.Shrunk.{is_top}
+use Rattle.mum_tree.proofs.Common.{◌≡◌, ◌+◌, ◌-◌, ◌<◌, ℕ, Some, arith, ap, sym, ◌∙◌, position, option_map, level, upward}
+use Rattle.mum_tree.proofs.{Climb.add_none, Climb.add_one_more, Climb.climb_done, Climb.climb_missing, Climb.climb_on, Climb.climb_root, Climb.climb_top, Shrunk.is_top}
 use Rattle.mum_tree.proofs.rows.steps_under.Goals as goal
 
 pub loop-steps-init : goal.loop-steps-init

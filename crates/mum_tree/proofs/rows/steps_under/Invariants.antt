@@ -1,7 +1,4 @@
-use Rattle.std.proofs.Common.{◌≡◌, ◌+◌, ◌-◌}
-use Rattle.std.specs.List.{position}
-use Rattle.std.specs.Option.{option_map}
-use Rattle.mum_tree.specs.Rows.{level, upward}
+use Rattle.mum_tree.proofs.Common.{◌≡◌, ◌+◌, ◌-◌, position, option_map, level, upward}
 use Rattle.mum_tree.proofs.Shrunk.{is_top}
 use Rattle.mum_tree.proofs.rows.steps_under.Given as goal
 

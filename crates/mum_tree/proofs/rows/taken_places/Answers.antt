@@ -1,7 +1,4 @@
-use Rattle.std.proofs.Common.{◌≡◌, ◌<◌, ◌∙◌, Bool, true, false, List, length, get_or, arith, refl, ap, subst, length-set}
-use Rattle.std.specs.List.{count_by}
-use Rattle.std.proofs.lemmas.Bool.{false≢true}
-use Rattle.mum_tree.specs.declared.channel.Row.{Row}
+use Rattle.mum_tree.proofs.Common.{◌≡◌, ◌<◌, ◌∙◌, Bool, true, false, List, length, get_or, arith, refl, ap, subst, length-set, count_by, false≢true, Row}
 use Rattle.mum_tree.proofs.Places.{count_set, count_none, none_taken, free_more, taken_more}
 use Rattle.mum_tree.proofs.rows.taken_places.Goals as goal
 

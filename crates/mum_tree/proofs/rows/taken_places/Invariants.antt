@@ -1,7 +1,4 @@
-use Rattle.std.proofs.Common.{◌≡◌, ◌≢◌, ℕ, ◌<◌, ◌≤◌, true, false, length, get_or}
-use Rattle.std.specs.List.{count_by}
-use Rattle.mum_tree.specs.Places.{IsFree}
-use Rattle.mum_tree.specs.declared.channel.Row.{Row}
+use Rattle.mum_tree.proofs.Common.{◌≡◌, ◌≢◌, ℕ, ◌<◌, ◌≤◌, true, false, length, get_or, count_by, IsFree, Row}
 use Rattle.mum_tree.proofs.rows.taken_places.Given as goal
 
 abbrev pub invariant-loop-row : goal.invariant-loop-row

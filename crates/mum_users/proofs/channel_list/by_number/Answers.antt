@@ -1,7 +1,4 @@
-use Rattle.std.proofs.Common.{◌==◌, ◌∙◌, List, ap, sym, rules}
-use Rattle.std.proofs.lemmas.List.Sorted.{IsNonDecreasingBy-from_sort_by_key, list_any-IsPermutation}
-use Rattle.mum_base.specs.Channels.{is_among}
-use Rattle.mum_base.specs.declared.number.ChannelId.{ChannelId}
+use Rattle.mum_users.proofs.Common.{◌==◌, ◌∙◌, List, ap, sym, rules, IsNonDecreasingBy-from_sort_by_key, list_any-IsPermutation, is_among, ChannelId}
 use Rattle.mum_users.proofs.channel_list.by_number.Goals as goal
 
 pub returns : goal.returns

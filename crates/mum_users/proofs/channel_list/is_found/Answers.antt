@@ -1,6 +1,4 @@
-use Rattle.std.proofs.Common.{◌∙◌, rules}
-use Rattle.std.proofs.lemmas.List.Sorted.{answers_always}
-use Rattle.mum_base.specs.declared.number.ChannelId.{ChannelId}
+use Rattle.mum_users.proofs.Common.{◌∙◌, rules, answers_always, ChannelId}
 use Rattle.mum_users.proofs.Search.{any_by_halving}
 use Rattle.mum_users.proofs.channel_list.is_found.Goals as goal
 

@@ -1,4 +1,4 @@
-use Rattle.std.proofs.Common.{◌∙◌}
+use Rattle.mum_users.proofs.Common.{◌∙◌}
 use Rattle.mum_users.proofs.Edits.{crowded_same}
 use Rattle.mum_users.proofs.edit.crowds_one.Goals as goal
 

@@ -1,15 +1,6 @@
-use Rattle.std.proofs.Common.{◌≡◌, ℕ, ◌+◌, ◌<◌, ◌≤◌, Bool, cond, ltb, not, List, drop, drop_of_length-le, refl, sym, ap, ◌∙◌, arith}
-use Rattle.std.specs.List.{count_by}
-use Rattle.std.proofs.lemmas.Bool.Decides.{nat_tests}
-use Rattle.mum_base.specs.declared.number.ChannelId.{ChannelId}
-use Rattle.mum_users.specs.declared.listening.ListenerPair.{ListenerPair}
-use Rattle.mum_users.specs.declared.listening.TheConstants.{LISTENED_CHANNELS}
-use Rattle.mum_base.specs.Channels.{is_among}
-use Rattle.mum_users.specs.Edit.{staying, with_channels}
-use Rattle.mum_users.specs.State.{is_of_session}
-use Rattle.mum_users.proofs.Edits.{count-staying_own, one_more_own, own_grows}
+use Rattle.mum_users.proofs.Common.{◌≡◌, ℕ, ◌+◌, ◌<◌, ◌≤◌, Bool, cond, ltb, not, List, drop, drop_of_length-le, refl, sym, ap, ◌∙◌, arith, count_by, nat_tests, ChannelId, ListenerPair, LISTENED_CHANNELS, is_among, staying, with_channels, is_of_session}
+use Rattle.mum_users.proofs.{Edits.count-staying_own, Edits.one_more_own, Edits.own_grows, edit.listens_to_too_many.Goals.then-channels-test+else-count-le-LISTENED_CHANNELS, edit.listens_to_too_many.Goals.else-channels-test}
 use Rattle.mum_users.proofs.edit.listens_to_too_many.Goals as goal
-use Rattle.mum_users.proofs.edit.listens_to_too_many.Goals.{then-channels-test+else-count-le-LISTENED_CHANNELS, else-channels-test}
 
 pub channels-init : goal.channels-init
 channels-init c =

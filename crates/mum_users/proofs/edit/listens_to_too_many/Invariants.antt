@@ -1,7 +1,4 @@
-use Rattle.std.proofs.Common.{◌≡◌, ◌≤◌, length, drop}
-use Rattle.std.specs.List.{count_by}
-use Rattle.mum_users.specs.Edit.{staying, with_channels}
-use Rattle.mum_users.specs.State.{is_of_session}
+use Rattle.mum_users.proofs.Common.{◌≡◌, ◌≤◌, length, drop, count_by, staying, with_channels, is_of_session}
 use Rattle.mum_users.proofs.edit.listens_to_too_many.Given as goal
 
 abbrev pub invariant-channels : goal.invariant-channels

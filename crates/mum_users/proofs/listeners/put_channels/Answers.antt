@@ -1,10 +1,4 @@
-use Rattle.std.proofs.Common.{◌≡◌, ℕ, suc, ◌-◌, ◌<◌, cond, List, ◌∷◌, length, get_or, drop, drop-cons, sym, ap, ◌∙◌, arith}
-use Rattle.mum_base.specs.declared.number.SessionId.{SessionId}
-use Rattle.mum_base.specs.declared.number.ChannelId.{ChannelId}
-use Rattle.mum_users.specs.declared.listening.ListenerPair.{ListenerPair}
-use Rattle.mum_base.specs.Channels.{is_among}
-use Rattle.mum_users.specs.Edit.{with_channels}
-use Rattle.mum_users.specs.Listeners.{pair_below, with_pair}
+use Rattle.mum_users.proofs.Common.{◌≡◌, ℕ, suc, ◌-◌, ◌<◌, cond, List, ◌∷◌, length, get_or, drop, drop-cons, sym, ap, ◌∙◌, arith, SessionId, ChannelId, ListenerPair, is_among, with_channels, pair_below, with_pair}
 use Rattle.mum_users.proofs.listeners.put_channels.Goals as goal
 
 -- one channel more, from the last on

@@ -1,7 +1,4 @@
-use Rattle.std.proofs.Common.{◌≡◌, ◌+◌, ◌≤◌, length, drop}
-use Rattle.std.specs.Vec.{vec_capacity, vec_len}
-use Rattle.mum_users.specs.Edit.{with_channels}
-use Rattle.mum_users.specs.Listeners.{IsIndexed}
+use Rattle.mum_users.proofs.Common.{◌≡◌, ◌+◌, ◌≤◌, length, drop, vec_capacity, vec_len, with_channels, IsIndexed}
 use Rattle.mum_users.proofs.listeners.put_channels.Given as goal
 
 abbrev pub invariant-channels : goal.invariant-channels

@@ -1,5 +1,4 @@
-use Rattle.std.proofs.Common.{rules}
-use Rattle.std.proofs.lemmas.Fn.{filter_same}
+use Rattle.mum_users.proofs.Common.{rules, filter_same}
 use Rattle.mum_users.proofs.listening.drop_pair.Goals as goal
 
 pub returns : goal.returns

@@ -1,13 +1,5 @@
-use Rattle.std.proofs.Common.{◌≡◌, false, true, nat_lt, rules, arith}
-use Rattle.std.specs.Prelude.{IsTrue}
-use Rattle.std.proofs.lemmas.Bool.Decides.{nat_tests}
-use Rattle.std.proofs.lemmas.List.Sorted.{IsPartitionPoint-from_clause}
-use Rattle.mum_base.specs.declared.number.ChannelId.{ChannelId}
-use Rattle.mum_users.specs.declared.listening.ListenerPair.{ListenerPair}
-use Rattle.mum_users.specs.Listeners.{channel_below}
-use Rattle.mum_users.specs.State.{is_of_channel}
-use Rattle.mum_users.proofs.Runs.{run_found}
-use Rattle.mum_users.proofs.Search.{parted, place_between}
+use Rattle.mum_users.proofs.Common.{◌≡◌, false, true, nat_lt, rules, arith, IsTrue, nat_tests, IsPartitionPoint-from_clause, ChannelId, ListenerPair, channel_below, is_of_channel}
+use Rattle.mum_users.proofs.{Runs.run_found, Search.parted, Search.place_between}
 use Rattle.mum_users.proofs.listening.pairs_of_channel.Goals as goal
 
 before_down : (channel : ChannelId) (x y : ListenerPair) → IsTrue (channel_below x y) → nat_lt y.channel.0 channel.0 ≡ true → nat_lt x.channel.0 channel.0 ≡ true

@@ -1,13 +1,5 @@
-use Rattle.std.proofs.Common.{◌≡◌, false, true, nat_lt, rules, arith}
-use Rattle.std.specs.Prelude.{IsTrue}
-use Rattle.std.proofs.lemmas.Bool.Decides.{nat_tests}
-use Rattle.std.proofs.lemmas.List.Sorted.{IsPartitionPoint-from_clause}
-use Rattle.mum_base.specs.declared.number.SessionId.{SessionId}
-use Rattle.mum_users.specs.declared.listening.ListenerPair.{ListenerPair}
-use Rattle.mum_users.specs.Listeners.{pair_below}
-use Rattle.mum_users.specs.State.{is_of_session}
-use Rattle.mum_users.proofs.Runs.{run_found}
-use Rattle.mum_users.proofs.Search.{parted, place_between}
+use Rattle.mum_users.proofs.Common.{◌≡◌, false, true, nat_lt, rules, arith, IsTrue, nat_tests, IsPartitionPoint-from_clause, SessionId, ListenerPair, pair_below, is_of_session}
+use Rattle.mum_users.proofs.{Runs.run_found, Search.parted, Search.place_between}
 use Rattle.mum_users.proofs.listening.pairs_of_session.Goals as goal
 
 before_down : (session : SessionId) (x y : ListenerPair) → IsTrue (pair_below x y) → nat_lt y.session.0 session.0 ≡ true → nat_lt x.session.0 session.0 ≡ true

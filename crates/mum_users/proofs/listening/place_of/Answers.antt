@@ -1,8 +1,5 @@
-use Rattle.std.proofs.Common.{rules}
-use Rattle.std.proofs.lemmas.List.Sorted.{IsPartitionPoint-from_clause}
-use Rattle.mum_users.specs.Listeners.{below_in}
-use Rattle.mum_users.proofs.Pairs.{pair_through}
-use Rattle.mum_users.proofs.Search.{parted, place_between}
+use Rattle.mum_users.proofs.Common.{rules, IsPartitionPoint-from_clause, below_in}
+use Rattle.mum_users.proofs.{Pairs.pair_through, Search.parted, Search.place_between}
 use Rattle.mum_users.proofs.listening.place_of.Goals as goal
 
 pub returns-clause-place : goal.returns-clause-place

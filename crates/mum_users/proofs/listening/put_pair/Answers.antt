@@ -1,4 +1,4 @@
-use Rattle.std.proofs.Common.{◌∙◌}
+use Rattle.mum_users.proofs.Common.{◌∙◌}
 use Rattle.mum_users.proofs.Pairs.{put_stays, put_goes_in}
 use Rattle.mum_users.proofs.listening.put_pair.Goals as goal
 

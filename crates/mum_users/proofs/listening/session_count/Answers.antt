@@ -1,5 +1,4 @@
-use Rattle.std.proofs.Common.{not, arith}
-use Rattle.mum_users.specs.State.{is_of_session}
+use Rattle.mum_users.proofs.Common.{not, arith, is_of_session}
 use Rattle.mum_users.proofs.Places.{unwrap_or-position}
 use Rattle.mum_users.proofs.listening.session_count.Goals as goal
 

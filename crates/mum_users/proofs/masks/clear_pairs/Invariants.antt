@@ -1,7 +1,4 @@
-use Rattle.std.proofs.Common.{◌≡◌, ◌≤◌, length, drop}
-use Rattle.std.specs.Vec.{vec_capacity, vec_len}
-use Rattle.mum_users.specs.Order.{Rises}
-use Rattle.mum_users.specs.SlotMasks.{mask_below, without_pairs}
+use Rattle.mum_users.proofs.Common.{◌≡◌, ◌≤◌, length, drop, vec_capacity, vec_len, Rises, mask_below, without_pairs}
 use Rattle.mum_users.proofs.masks.clear_pairs.Given as goal
 
 abbrev pub invariant-pairs : goal.invariant-pairs

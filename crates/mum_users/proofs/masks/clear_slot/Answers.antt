@@ -1,8 +1,4 @@
-use Rattle.std.proofs.Common.{◌*◌, ◌/◌, ◌%◌, ◌^◌, ap, refl}
-use Rattle.std.specs.Int.{bit_not}
-use lib.Bits.{bit_and}
-use mir.Syntax.{w128}
-use Rattle.mum_users.specs.declared.masks.MaskRow.{MaskRow}
+use Rattle.mum_users.proofs.Common.{◌*◌, ◌/◌, ◌%◌, ◌^◌, ap, refl, bit_not, bit_and, w128, MaskRow}
 use Rattle.mum_users.proofs.MaskRows.{put_none, put_over}
 use Rattle.mum_users.proofs.masks.clear_slot.Goals as goal
 

@@ -1,8 +1,5 @@
-use Rattle.std.proofs.Common.{◌∙◌, rules}
-use Rattle.std.proofs.lemmas.List.Sorted.{answers_always}
-use Rattle.mum_users.specs.declared.masks.MaskRow.{MaskRow}
-use Rattle.mum_users.proofs.MaskRows.{channels_in_order}
-use Rattle.mum_users.proofs.Search.{any_by_halving}
+use Rattle.mum_users.proofs.Common.{◌∙◌, rules, answers_always, MaskRow}
+use Rattle.mum_users.proofs.{MaskRows.channels_in_order, Search.any_by_halving}
 use Rattle.mum_users.proofs.masks.has_row.Goals as goal
 
 pub returns : goal.returns

@@ -1,5 +1,4 @@
-use Rattle.std.proofs.Common.{ℕ, get_or, refl, sym, ap, ◌∙◌}
-use Rattle.mum_users.specs.declared.masks.MaskRow.{MaskRow}
+use Rattle.mum_users.proofs.Common.{ℕ, get_or, refl, sym, ap, ◌∙◌, MaskRow}
 use Rattle.mum_users.proofs.MaskRows.{mask_at-absent, mask_at-there}
 use Rattle.mum_users.proofs.masks.mask_at.Goals as goal
 

@@ -1,9 +1,5 @@
-use Rattle.std.proofs.Common.{rules}
-use Rattle.std.proofs.lemmas.List.Sorted.{IsPartitionPoint-from_clause}
-use Rattle.mum_users.specs.declared.masks.MaskRow.{MaskRow}
-use Rattle.mum_users.specs.SlotMasks.{is_mask_below, mask_below}
-use Rattle.mum_users.proofs.MaskRows.{below_down}
-use Rattle.mum_users.proofs.Search.{parted, place_between}
+use Rattle.mum_users.proofs.Common.{rules, IsPartitionPoint-from_clause, MaskRow, is_mask_below, mask_below}
+use Rattle.mum_users.proofs.{MaskRows.below_down, Search.parted, Search.place_between}
 use Rattle.mum_users.proofs.masks.place_of.Goals as goal
 
 pub returns-clause-place : goal.returns-clause-place

@@ -1,6 +1,5 @@
-use Rattle.std.proofs.Common.{arith}
-use Rattle.mum_users.proofs.MaskRows.{Rises-with_mask}
-use Rattle.mum_users.proofs.Members.{one_more_user}
+use Rattle.mum_users.proofs.Common.{arith}
+use Rattle.mum_users.proofs.{MaskRows.Rises-with_mask, Members.one_more_user}
 use Rattle.mum_users.proofs.masks.put_members.Goals as goal
 
 pub users-preserved : goal.users-preserved

@@ -1,6 +1,5 @@
-use Rattle.std.proofs.Common.{arith}
-use Rattle.mum_users.proofs.MaskRows.{Rises-with_mask}
-use Rattle.mum_users.proofs.Members.{one_more_set}
+use Rattle.mum_users.proofs.Common.{arith}
+use Rattle.mum_users.proofs.{MaskRows.Rises-with_mask, Members.one_more_set}
 use Rattle.mum_users.proofs.masks.set_pairs.Goals as goal
 
 pub pairs-preserved : goal.pairs-preserved

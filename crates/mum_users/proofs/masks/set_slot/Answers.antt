@@ -1,8 +1,5 @@
-use Rattle.std.proofs.Common.{◌*◌, ◌/◌, ◌%◌, ◌^◌, ap, refl}
-use Rattle.std.specs.Int.RustNames.{bit_or}
-use Rattle.mum_users.specs.declared.masks.MaskRow.{MaskRow}
-use Rattle.mum_users.proofs.MaskRows.{put_before, put_over}
-use Rattle.mum_users.proofs.MaskSets.{below_128}
+use Rattle.mum_users.proofs.Common.{◌*◌, ◌/◌, ◌%◌, ◌^◌, ap, refl, bit_or, MaskRow}
+use Rattle.mum_users.proofs.{MaskRows.put_before, MaskRows.put_over, MaskSets.below_128}
 use Rattle.mum_users.proofs.masks.set_slot.Goals as goal
 
 pub returns-then-is_at-clause-items : goal.returns-then-is_at-clause-items

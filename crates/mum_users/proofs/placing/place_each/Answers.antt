@@ -1,8 +1,4 @@
-use Rattle.std.proofs.Common.{◌≡◌, ◌∙◌, ◌<◌, ◌||◌, ◌==◌, ℕ, Bool, List, length, get_or, not, set, ap, sym, arith}
-use Rattle.std.proofs.lemmas.List.Folds.{list_any_more}
-use Rattle.mum_users.specs.declared.placing.Placement.{Placement}
-use Rattle.mum_users.specs.declared.user.User.{User}
-use Rattle.mum_users.specs.Placed.{is_moved, with_placement}
+use Rattle.mum_users.proofs.Common.{◌≡◌, ◌∙◌, ◌<◌, ◌||◌, ◌==◌, ℕ, Bool, List, length, get_or, not, set, ap, sym, arith, list_any_more, Placement, User, is_moved, with_placement}
 use Rattle.mum_users.proofs.Placed.{at-mapped, set-mapped}
 use Rattle.mum_users.proofs.placing.place_each.Goals as goal
 

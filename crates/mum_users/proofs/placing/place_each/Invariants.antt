@@ -1,6 +1,4 @@
-use Rattle.std.proofs.Common.{◌≡◌, ◌++◌, drop, map, take}
-use Rattle.std.specs.List.{list_any}
-use Rattle.mum_users.specs.Placed.{is_moved, with_placement}
+use Rattle.mum_users.proofs.Common.{◌≡◌, ◌++◌, drop, map, take, list_any, is_moved, with_placement}
 use Rattle.mum_users.proofs.placing.place_each.Given as goal
 
 abbrev pub invariant-loop-user : goal.invariant-loop-user

@@ -1,4 +1,4 @@
-use Rattle.std.proofs.Common.{◌≡◌, take}
+use Rattle.mum_users.proofs.Common.{◌≡◌, take}
 use Rattle.mum_users.proofs.sessions.copy_of_users.Given as goal
 
 abbrev pub invariant-loop-user : goal.invariant-loop-user

@@ -1,5 +1,4 @@
-use Rattle.std.proofs.Common.{◌≡◌, drop}
-use Rattle.mum_users.specs.Sessions.{free_slot_from}
+use Rattle.mum_users.proofs.Common.{◌≡◌, drop, free_slot_from}
 use Rattle.mum_users.proofs.sessions.free_slot.Given as goal
 
 abbrev pub invariant-loop-slot : goal.invariant-loop-slot

@@ -1,5 +1,4 @@
-use Rattle.std.proofs.Common.{◌∙◌}
-use Rattle.mum_base.specs.declared.number.TheConstants.{SLOTS}
+use Rattle.mum_users.proofs.Common.{◌∙◌, SLOTS}
 use Rattle.mum_users.proofs.Numbers.{no_row, row_in_slot}
 use Rattle.mum_users.proofs.sessions.index_of.Goals as goal
 

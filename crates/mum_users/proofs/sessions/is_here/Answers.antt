@@ -1,6 +1,4 @@
-use Rattle.std.proofs.Common.{ap, ◌∙◌}
-use Rattle.std.specs.Option.{is_some}
-use Rattle.mum_users.specs.State.{has_number}
+use Rattle.mum_users.proofs.Common.{ap, ◌∙◌, is_some, has_number}
 use Rattle.mum_users.proofs.Places.{is_some-position}
 use Rattle.mum_users.proofs.sessions.is_here.Goals as goal
 

@@ -1,6 +1,4 @@
-use Rattle.std.proofs.Common.{Ok, Err, rules}
-use Rattle.std.proofs.lemmas.List.Sorted.{answers_always}
-use Rattle.mum_base.specs.declared.number.TheConstants.{SLOTS}
+use Rattle.mum_users.proofs.Common.{Ok, Err, rules, answers_always, SLOTS}
 use Rattle.mum_users.proofs.Slots.{place_of_slot}
 use Rattle.mum_users.proofs.sessions.place_of.Goals as goal
 

@@ -1,5 +1,4 @@
-use Rattle.std.proofs.Common.{Some, sym, ap, ◌∙◌}
-use Rattle.mum_users.specs.State.{has_slot}
+use Rattle.mum_users.proofs.Common.{Some, sym, ap, ◌∙◌, has_slot}
 use Rattle.mum_users.proofs.Places.{find-absent, find-found}
 use Rattle.mum_users.proofs.sessions.row_at.Goals as goal
 

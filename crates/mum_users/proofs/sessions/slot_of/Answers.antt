@@ -1,7 +1,5 @@
-use Rattle.std.proofs.Common.{Ok, Err, rules}
-use Rattle.std.proofs.lemmas.List.Sorted.{answers_always}
-use Rattle.mum_users.proofs.Numbers.{found_slot, no_slot, numbers_rise}
-use Rattle.mum_users.proofs.Search.{found_by_halving}
+use Rattle.mum_users.proofs.Common.{Ok, Err, rules, answers_always}
+use Rattle.mum_users.proofs.{Numbers.found_slot, Numbers.no_slot, Numbers.numbers_rise, Search.found_by_halving}
 use Rattle.mum_users.proofs.sessions.slot_of.Goals as goal
 
 pub returns-in-Ok : goal.returns-in-Ok

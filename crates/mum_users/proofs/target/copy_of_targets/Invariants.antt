@@ -1,4 +1,4 @@
-use Rattle.std.proofs.Common.{◌≡◌, take}
+use Rattle.mum_users.proofs.Common.{◌≡◌, take}
 use Rattle.mum_users.proofs.target.copy_of_targets.Given as goal
 
 abbrev pub invariant-loop-row : goal.invariant-loop-row

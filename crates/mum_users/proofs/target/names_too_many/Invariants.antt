@@ -1,6 +1,4 @@
-use Rattle.std.proofs.Common.{◌≡◌, ◌≤◌, length, take}
-use Rattle.std.specs.List.{sum_by}
-use Rattle.mum_users.specs.declared.target.TheConstants.{TARGET_SESSIONS}
+use Rattle.mum_users.proofs.Common.{◌≡◌, ◌≤◌, length, take, sum_by, TARGET_SESSIONS}
 use Rattle.mum_users.proofs.target.names_too_many.Given as goal
 
 abbrev pub invariant-loop-item : goal.invariant-loop-item

@@ -1,8 +1,4 @@
-use Rattle.std.proofs.Common.{[], rules}
-use Rattle.std.proofs.lemmas.List.Sorted.{IsPartitionPoint-from_clause}
-use Rattle.mum_users.specs.declared.target.TargetRow.{TargetRow}
-use Rattle.mum_users.specs.Proper.{row_below}
-use Rattle.mum_users.specs.Targets.{target_below}
+use Rattle.mum_users.proofs.Common.{[], rules, IsPartitionPoint-from_clause, TargetRow, row_below, target_below}
 use Rattle.mum_users.proofs.Search.{below_down, parted, place_between}
 use Rattle.mum_users.proofs.target.place_of.Goals as goal
 

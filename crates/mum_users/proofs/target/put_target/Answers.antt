@@ -1,4 +1,4 @@
-use Rattle.std.proofs.Common.{◌∙◌}
+use Rattle.mum_users.proofs.Common.{◌∙◌}
 use Rattle.mum_users.proofs.Places.{put_over, put_before}
 use Rattle.mum_users.proofs.target.put_target.Goals as goal
 

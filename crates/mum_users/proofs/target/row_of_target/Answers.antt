@@ -1,4 +1,4 @@
-use Rattle.std.proofs.Common.{ℕ, Some, get_or, refl, sym, ap, ◌∙◌}
+use Rattle.mum_users.proofs.Common.{ℕ, Some, get_or, refl, sym, ap, ◌∙◌}
 use Rattle.mum_users.proofs.Search.{find-at_place, find-no_place}
 use Rattle.mum_users.proofs.target.row_of_target.Goals as goal
 

@@ -1,4 +1,4 @@
-use Rattle.std.proofs.Common.{◌≡◌, take}
+use Rattle.mum_users.proofs.Common.{◌≡◌, take}
 use Rattle.mum_users.proofs.user.shared_texts.Given as goal
 
 abbrev pub invariant-loop-text : goal.invariant-loop-text

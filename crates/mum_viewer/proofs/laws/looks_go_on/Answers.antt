@@ -1,8 +1,4 @@
-use Rattle.std.proofs.Common.{◌≡◌, ◌++◌, ◌∷◌, [], refl, sym, subst}
-use mathlib.Core.List.{IsPrefix}
-use Rattle.mum_published.specs.Calls.{ask_at}
-use Rattle.mum_published.specs.Facts.{PassFacts}
-use Rattle.mum_viewer.specs.Look.{view_ask}
+use Rattle.mum_viewer.proofs.Common.{◌≡◌, ◌++◌, ◌∷◌, [], refl, sym, subst, IsPrefix, ask_at, PassFacts, view_ask}
 use Rattle.mum_viewer.proofs.laws.looks_go_on.Goals as goal
 
 pub returns : goal.returns

@@ -1,5 +1,4 @@
-use Rattle.std.proofs.Common.{rules}
-use Rattle.std.proofs.lemmas.Fn.{filter_same}
+use Rattle.mum_viewer.proofs.Common.{rules, filter_same}
 use Rattle.mum_viewer.proofs.list.let_go.Goals as goal
 
 pub returns-clause-items : goal.returns-clause-items

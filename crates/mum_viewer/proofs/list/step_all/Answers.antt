@@ -1,7 +1,4 @@
-use Rattle.std.proofs.Common.{◌<◌, ◌∙◌, length, rules, arith, sym}
-use Rattle.std.proofs.lemmas.List.{length-set}
-use Rattle.mum_crew.proofs.AlongLemmas.{along_more}
-use Rattle.mum_viewer.specs.View.{ViewMoves}
+use Rattle.mum_viewer.proofs.Common.{◌<◌, ◌∙◌, length, rules, arith, sym, length-set, along_more, ViewMoves}
 use Rattle.mum_viewer.proofs.list.step_all.Goals as goal
 
 pub loop-done-preserved : goal.loop-done-preserved

@@ -1,7 +1,4 @@
-use Rattle.std.proofs.Common.{◌≡◌, ◌≤◌, ◌-◌, length, take, drop}
-use Rattle.std.specs.VecDeque.{deque_capacity}
-use Rattle.mum_crew.specs.Along.{Along}
-use Rattle.mum_viewer.specs.View.{ViewMoves}
+use Rattle.mum_viewer.proofs.Common.{◌≡◌, ◌≤◌, ◌-◌, length, take, drop, deque_capacity, Along, ViewMoves}
 use Rattle.mum_viewer.proofs.list.step_all.Given as goal
 
 abbrev pub invariant-loop-done : goal.invariant-loop-done

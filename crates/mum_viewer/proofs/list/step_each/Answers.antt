@@ -1,6 +1,4 @@
-use Rattle.std.proofs.Common.{length, arith, ap}
-use Rattle.mum_crew.proofs.AlongLemmas.{fewer}
-use Rattle.mum_viewer.specs.View.{is_open}
+use Rattle.mum_viewer.proofs.Common.{length, arith, ap, fewer, is_open}
 use Rattle.mum_viewer.proofs.list.step_each.Goals as goal
 
 pub returns-clause-few : goal.returns-clause-few

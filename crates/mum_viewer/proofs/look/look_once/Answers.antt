@@ -1,6 +1,5 @@
-use Rattle.std.proofs.Common.{rules}
+use Rattle.mum_viewer.proofs.Common.{rules, view_ask}
 use Rattle.mum_viewer.proofs.Looking.{same_known}
-use Rattle.mum_viewer.specs.Look.{view_ask}
 use Rattle.mum_viewer.proofs.look.look_once.Goals as goal
 
 pub returns-clause-same : goal.returns-clause-same

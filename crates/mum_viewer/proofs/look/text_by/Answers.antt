@@ -1,7 +1,5 @@
-use Rattle.std.proofs.Common.{rules}
+use Rattle.mum_viewer.proofs.Common.{rules, picture_of, view_text}
 use Rattle.mum_viewer.proofs.Looking.{found_text, kept_is, nothing_found}
-use Rattle.mum_viewer.specs.Picture.{picture_of}
-use Rattle.mum_viewer.specs.Text.{view_text}
 use Rattle.mum_viewer.proofs.look.text_by.Goals as goal
 
 pub text_for-requires : goal.text_for-requires

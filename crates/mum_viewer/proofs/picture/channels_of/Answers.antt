@@ -1,4 +1,4 @@
-use Rattle.mum_users.specs.declared.listening.ListenerPair.{ListenerPair}
+use Rattle.mum_viewer.proofs.Common.{ListenerPair}
 use Rattle.mum_viewer.proofs.Lists.{mapped_at}
 use Rattle.mum_viewer.proofs.picture.channels_of.Goals as goal
 

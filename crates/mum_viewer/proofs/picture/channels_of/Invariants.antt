@@ -1,4 +1,4 @@
-use Rattle.std.proofs.Common.{◌≡◌, map, take}
+use Rattle.mum_viewer.proofs.Common.{◌≡◌, map, take}
 use Rattle.mum_viewer.proofs.picture.channels_of.Given as goal
 
 abbrev pub invariant-loop-pair : goal.invariant-loop-pair

@@ -1,6 +1,4 @@
-use Rattle.std.proofs.Common.{ap, ◌∙◌}
-use Rattle.std.specs.Option.{option_map}
-use Rattle.mum_tree.specs.declared.channel.Row.{Row}
+use Rattle.mum_viewer.proofs.Common.{ap, ◌∙◌, option_map, Row}
 use Rattle.mum_viewer.proofs.Rows.{row_at_index}
 use Rattle.mum_viewer.proofs.picture.nth_channel.Goals as goal
 

@@ -1,5 +1,4 @@
-use Rattle.std.proofs.Common.{◌≡◌, ◌-◌, ◌≤◌, length, take}
-use Rattle.mum_tree.specs.State.{partners}
+use Rattle.mum_viewer.proofs.Common.{◌≡◌, ◌-◌, ◌≤◌, length, take, partners}
 use Rattle.mum_viewer.proofs.picture.partners.Given as goal
 
 abbrev pub invariant-loop-partner : goal.invariant-loop-partner

@@ -1,8 +1,5 @@
-use Rattle.std.proofs.Common.{None, sym, arith, ◌∙◌}
-use Rattle.mum_viewer.specs.Picture.{shown_channels}
-use Rattle.mum_viewer.proofs.Copies.{no_copy}
-use Rattle.mum_viewer.proofs.Lists.{next_front, whole_front}
-use Rattle.mum_viewer.proofs.Rows.{none_shown, some_shown}
+use Rattle.mum_viewer.proofs.Common.{None, sym, arith, ◌∙◌, shown_channels}
+use Rattle.mum_viewer.proofs.{Copies.no_copy, Lists.next_front, Lists.whole_front, Rows.none_shown, Rows.some_shown}
 use Rattle.mum_viewer.proofs.picture.shown_channels.Goals as goal
 
 pub loop-channel-preserved : goal.loop-channel-preserved

@@ -1,5 +1,4 @@
-use Rattle.std.proofs.Common.{◌≡◌, ◌-◌, ◌≤◌, length, take}
-use Rattle.mum_viewer.specs.Picture.{shown_channels}
+use Rattle.mum_viewer.proofs.Common.{◌≡◌, ◌-◌, ◌≤◌, length, take, shown_channels}
 use Rattle.mum_viewer.proofs.picture.shown_channels.Given as goal
 
 abbrev pub invariant-loop-channel : goal.invariant-loop-channel

@@ -1,6 +1,4 @@
-use Rattle.std.proofs.Common.{◌∷◌, [], ◌++◌, ap, ◌∙◌}
-use Rattle.mum_viewer.specs.Picture.{shown_user}
-use Rattle.mum_viewer.specs.declared.picture.ShownUser.{ShownUser}
+use Rattle.mum_viewer.proofs.Common.{◌∷◌, [], ◌++◌, ap, ◌∙◌, shown_user, ShownUser}
 use Rattle.mum_viewer.proofs.Lists.{mapped_at}
 use Rattle.mum_viewer.proofs.picture.shown_users.Goals as goal
 

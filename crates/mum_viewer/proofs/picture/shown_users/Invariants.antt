@@ -1,5 +1,4 @@
-use Rattle.std.proofs.Common.{◌≡◌, map, take}
-use Rattle.mum_viewer.specs.Picture.{shown_user}
+use Rattle.mum_viewer.proofs.Common.{◌≡◌, map, take, shown_user}
 use Rattle.mum_viewer.proofs.picture.shown_users.Given as goal
 
 abbrev pub invariant-loop-user : goal.invariant-loop-user

@@ -1,6 +1,4 @@
-use Rattle.std.proofs.Common.{ap, ◌∙◌}
-use Rattle.serde_json.specs.View.{view}
-use Rattle.mum_viewer.specs.Text.{channel_object}
+use Rattle.mum_viewer.proofs.Common.{ap, ◌∙◌, view, channel_object}
 use Rattle.mum_viewer.proofs.Lists.{seen_at}
 use Rattle.mum_viewer.proofs.text.channel_list.Goals as goal
 

@@ -1,6 +1,4 @@
-use Rattle.serde_json.specs.View.{view}
-use Rattle.mum_base.specs.declared.number.ChannelId.{ChannelId}
-use Rattle.mum_viewer.specs.Text.{whole}
+use Rattle.mum_viewer.proofs.Common.{view, ChannelId, whole}
 use Rattle.mum_viewer.proofs.Lists.{seen_at}
 use Rattle.mum_viewer.proofs.text.channel_numbers.Goals as goal
 

@@ -1,6 +1,4 @@
-use Rattle.std.proofs.Common.{◌≡◌, map, take}
-use Rattle.serde_json.specs.View.{view}
-use Rattle.mum_viewer.specs.Text.{whole}
+use Rattle.mum_viewer.proofs.Common.{◌≡◌, map, take, view, whole}
 use Rattle.mum_viewer.proofs.text.channel_numbers.Given as goal
 
 abbrev pub invariant-loop-id : goal.invariant-loop-id

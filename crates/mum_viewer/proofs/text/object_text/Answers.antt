@@ -1,6 +1,4 @@
-use Rattle.std.proofs.Common.{ap, ◌∙◌}
-use Rattle.std.proofs.lemmas.Result.{IfOk-weaker}
-use Rattle.serde_json.specs.Written.{compact_text, has_float}
+use Rattle.mum_viewer.proofs.Common.{ap, ◌∙◌, IfOk-weaker, compact_text, has_float}
 use Rattle.mum_viewer.proofs.NoFloats.{none_in_picture}
 use Rattle.mum_viewer.proofs.text.object_text.Goals as goal
 

@@ -1,5 +1,4 @@
-use Rattle.mum_viewer.proofs.Causing.{done, idle, worked}
-use Rattle.mum_viewer.proofs.Turning.{all_open}
+use Rattle.mum_viewer.proofs.{Causing.done, Causing.idle, Causing.worked, Turning.all_open}
 use Rattle.mum_viewer.proofs.turns.answers_have_causes.Goals as goal
 
 pub returns-clause-idle : goal.returns-clause-idle

@@ -1,5 +1,4 @@
-use Rattle.std.proofs.Common.{get_or, refl, sym, ◌∙◌, arith}
-use Rattle.std.proofs.lemmas.Nat.{and_mask}
+use Rattle.mum_voice.proofs.Common.{get_or, refl, sym, ◌∙◌, arith, and_mask}
 use Rattle.mum_voice.proofs.AudioLength.{loop_short, loop_last, loop_another, loop_ended}
 use Rattle.mum_voice.proofs.audio.segments_length.Goals as goal
 

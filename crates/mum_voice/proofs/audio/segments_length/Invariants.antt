@@ -1,5 +1,4 @@
-use Rattle.std.proofs.Common.{◌≡◌, ◌-◌, ◌≤◌, length, drop}
-use Rattle.mum_voice.specs.Packet.{segments_len, segments_len_within}
+use Rattle.mum_voice.proofs.Common.{◌≡◌, ◌-◌, ◌≤◌, length, drop, segments_len, segments_len_within}
 use Rattle.mum_voice.proofs.AudioLength.{after}
 use Rattle.mum_voice.proofs.audio.segments_length.Given as goal
 

@@ -1,4 +1,4 @@
-use Rattle.std.proofs.Common.{ℕ, Some, sym, ap, ◌∙◌, arith, ◌-◌}
+use Rattle.mum_voice.proofs.Common.{ℕ, Some, sym, ap, ◌∙◌, arith, ◌-◌}
 use Rattle.mum_voice.proofs.Rows.{row_28, row_32, row_64, three_more, four_more, eight_more}
 use Rattle.mum_voice.proofs.varint.number_after.Goals as goal
 

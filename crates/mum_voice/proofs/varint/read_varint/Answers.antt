@@ -1,4 +1,4 @@
-use Rattle.std.proofs.Common.{arith}
+use Rattle.mum_voice.proofs.Common.{arith}
 use Rattle.mum_voice.proofs.Spelling.{reads_word, reads_none}
 use Rattle.mum_voice.proofs.varint.read_varint.Goals as goal
 

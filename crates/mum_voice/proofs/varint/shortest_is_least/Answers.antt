@@ -1,5 +1,4 @@
-use Rattle.mum_voice.proofs.Shortest.{shortest_word-spelled, shortest_word-least}
-use Rattle.mum_voice.proofs.Clear.{shortest-clear, shortest-only}
+use Rattle.mum_voice.proofs.{Shortest.shortest_word-spelled, Shortest.shortest_word-least, Clear.shortest-clear, Clear.shortest-only}
 use Rattle.mum_voice.proofs.varint.shortest_is_least.Goals as goal
 
 pub returns-clause-spelled : goal.returns-clause-spelled

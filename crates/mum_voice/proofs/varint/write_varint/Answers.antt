@@ -1,6 +1,4 @@
-use Rattle.std.proofs.Common.{◌≡◌, ◌-◌, ◌^◌, arith}
-use Rattle.std.proofs.lemmas.Grind.{common_steps}
-use Rattle.mum_voice.specs.Varint.{shortest_word}
+use Rattle.mum_voice.proofs.Common.{◌≡◌, ◌-◌, ◌^◌, arith, common_steps, shortest_word}
 use Rattle.mum_voice.proofs.Shortest.{len_32, len_64, shortest_word-read}
 use Rattle.mum_voice.proofs.varint.write_varint.Goals as goal
 

@@ -1,8 +1,8 @@
 use Rattle.std.proofs.Common.{◌∙◌, ap, arith}
 use Rattle.std.proofs.lemmas.Result.{IfOk-weaker}
-use Rattle.mum_fields.specs.Table.{spelled}
 use Rattle.mum_frame.specs.Frame.{spelling_of}
 use Rattle.mum_frame.specs.declared.kind.TheConstants.{REJECT}
+use Rattle.mum_fields.specs.Table.{spelled}
 use Rattle.mum_msg_state.specs.Messages.{reject}
 use Rattle.mum_msg_state.specs.declared.reject.Reject.{Reject}
 use Rattle.mum_warden.specs.Answer.{refusal}

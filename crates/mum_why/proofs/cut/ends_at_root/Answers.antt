@@ -1,6 +1,4 @@
-use Rattle.std.proofs.Common.{◌∙◌, sym}
-use Rattle.std.proofs.lemmas.Bool.{eqb-true}
-use Rattle.mum_policy.proofs.Paths.{is_root-last}
+use Rattle.mum_why.proofs.Common.{◌∙◌, sym, eqb-true, is_root-last}
 use Rattle.mum_why.proofs.Walked.{nowhere_is_root, somewhere}
 use Rattle.mum_why.proofs.cut.ends_at_root.Goals as goal
 

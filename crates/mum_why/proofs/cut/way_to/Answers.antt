@@ -1,6 +1,4 @@
-use Rattle.std.proofs.Common.{reverse, ap, sym, ◌∙◌}
-use Rattle.mum_base.specs.declared.number.ChannelId.{ChannelId}
-use Rattle.mum_tree.proofs.Upward.{upward_missing}
+use Rattle.mum_why.proofs.Common.{reverse, ap, sym, ◌∙◌, ChannelId, upward_missing}
 use Rattle.mum_why.proofs.cut.way_to.Goals as goal
 
 pub returns-in-None : goal.returns-in-None

@@ -1,5 +1,4 @@
-use Rattle.mum_why.proofs.Given.{cuts_are_given, cuts_hold}
-use Rattle.mum_why.proofs.OneCut.{cuts_are_alone}
+use Rattle.mum_why.proofs.{Given.cuts_are_given, Given.cuts_hold, OneCut.cuts_are_alone}
 use Rattle.mum_why.proofs.laws.cuts_hold.Goals as goal
 
 pub returns-clause-given : goal.returns-clause-given

@@ -1,8 +1,4 @@
-use Rattle.std.proofs.Common.{◌∙◌, ap, sym}
-use Rattle.std.specs.Option.{option_copied}
-use Rattle.mum_users.specs.Sessions.{session_of}
-use Rattle.mum_users.specs.State.{RosterState}
-use Rattle.mum_route.proofs.Present.{channel_there}
+use Rattle.mum_why.proofs.Common.{◌∙◌, ap, sym, option_copied, session_of, RosterState, channel_there}
 use Rattle.mum_why.proofs.reason.reason_for.Goals as goal
 
 pub reason_between-requires-clause-speaker : goal.reason_between-requires-clause-speaker

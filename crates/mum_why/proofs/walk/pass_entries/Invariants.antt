@@ -1,15 +1,11 @@
-use Rattle.std.proofs.Common.{◌≡◌, ◌+◌, ◌==◌, length, take}
-use Rattle.mum_policy.specs.Member.{actor_of}
-use Rattle.mum_policy.specs.Walk.{matches}
-use Rattle.mum_why.specs.Cut.{decides}
-use Rattle.mum_why.specs.Passed.{passed}
+use Rattle.mum_why.proofs.Common.{◌≡◌, ◌+◌, ◌==◌, length, take, actor_of, matches, decides, passed}
 use Rattle.mum_why.proofs.walk.pass_entries.Given as goal
 
 abbrev pub invariant-entries : goal.invariant-entries
 invariant-entries g l =
-    let policies = g.P.Policies.policy_of l.policies in
+    let policies = g.P.Policies.policy_of l.walk.policies.now in
     record {
-      value : l.passed ≡ passed (matches policies l.path (actor_of l.who) l.place)
-          (decides policies l.path (actor_of l.who) l.permission.0 l.place (l.place + 1 == length l.path)) l.fn.before.traverse l.fn.before.write (take l.index l.entries);
+      value : l.passed ≡ passed (matches policies l.walk.path.now (actor_of l.walk.who.now) l.place)
+          (decides policies l.walk.path.now (actor_of l.walk.who.now) l.walk.permission.0 l.place (l.place + 1 == length l.walk.path.now)) l.fn.before.traverse l.fn.before.write (take l.index l.entries);
       steps : l.steps ≡ l.initial.steps + l.index;
     }

@@ -1,9 +1,4 @@
-use Rattle.std.proofs.Common.{◌∙◌, Option, ap, sym}
-use Rattle.std.specs.Option.{option_map_or}
-use Rattle.mum_base.specs.declared.number.ChannelId.{ChannelId}
-use Rattle.mum_policy.specs.Member.{actor_of}
-use Rattle.mum_why.specs.declared.cut.Cut.TheVariants.{Closed}
-use Rattle.mum_why.specs.Cut.{by_entry, last_along}
+use Rattle.mum_why.proofs.Common.{◌∙◌, Option, ap, sym, option_map_or, ChannelId, actor_of, Closed, by_entry, last_along}
 use Rattle.mum_why.proofs.Walked.{ended_at, looked_first, looked_next, open_whole, stepped}
 use Rattle.mum_why.proofs.walk.walk_for.Goals as goal
 

@@ -1,5 +1,4 @@
-use Rattle.std.proofs.Common.{◌∙◌}
-use Rattle.mum_route.proofs.Among.{among-below}
+use Rattle.mum_why.proofs.Common.{◌∙◌, among-below}
 use Rattle.mum_why.proofs.ways.is_below.Goals as goal
 
 pub returns : goal.returns

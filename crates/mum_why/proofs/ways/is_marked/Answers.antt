@@ -1,4 +1,4 @@
-use Rattle.mum_route.proofs.Among.{marked_among}
+use Rattle.mum_why.proofs.Common.{marked_among}
 use Rattle.mum_why.proofs.ways.is_marked.Goals as goal
 
 pub returns : goal.returns

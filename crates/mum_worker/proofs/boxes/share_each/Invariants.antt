@@ -1,6 +1,4 @@
-use Rattle.std.proofs.Common.{◌≡◌, ◌++◌, map}
-use Rattle.std.specs.Vec.Iter.{into_iter_items}
-use Rattle.mum_outbox.specs.Calls.{lower_half, upper_half}
+use Rattle.mum_worker.proofs.CommonNames.{◌≡◌, ◌++◌, map, into_iter_items, lower_half, upper_half}
 use Rattle.mum_worker.proofs.boxes.share_each.Given as goal
 
 abbrev pub invariant-loop-owner : goal.invariant-loop-owner

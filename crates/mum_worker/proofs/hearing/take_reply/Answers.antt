@@ -1,9 +1,5 @@
-use Rattle.std.proofs.Common.{ap, subst, ◌∙◌}
-use Rattle.mum_published.specs.Facts.{ReplyFacts}
-use Rattle.mum_worker.specs.Hearing.{TakesReply}
-use Rattle.mum_worker.specs.Record.{without_room}
-use Rattle.mum_worker.proofs.Journals.{after_close_bare}
-use Rattle.mum_worker.proofs.PassesKept.{all_still, answers_all}
+use Rattle.mum_worker.proofs.CommonNames.{ap, subst, ◌∙◌, ReplyFacts, TakesReply, without_room}
+use Rattle.mum_worker.proofs.{Journals.after_close_bare, PassesKept.all_still, PassesKept.answers_all}
 use Rattle.mum_worker.proofs.hearing.take_reply.Goals as goal
 
 pub returns-clause-takes : goal.returns-clause-takes

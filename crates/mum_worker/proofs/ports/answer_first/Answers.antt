@@ -1,7 +1,4 @@
-use Rattle.std.proofs.Common.{length, refl, sym, inr}
-use Rattle.std.proofs.lemmas.List.Quantifiers.{position-Some}
-use Rattle.std.proofs.lemmas.Option.{slice_get_read}
-use Rattle.mum_worker.specs.Facts.{is_of}
+use Rattle.mum_worker.proofs.CommonNames.{length, refl, sym, inr, position-Some, slice_get_read, is_of}
 use Rattle.mum_worker.proofs.ports.answer_first.Goals as goal
 
 pub returns-in-Some-clause-answers : goal.returns-in-Some-clause-answers

@@ -1,8 +1,4 @@
-use Rattle.std.proofs.Common.{◌≡◌, ◌+◌, ◌<◌, length, rules, arith, refl}
-use Rattle.mum_crew.proofs.AlongLemmas.{goes_on, starts}
-use Rattle.mum_worker.specs.Facts.{stays}
-use Rattle.mum_worker.specs.Hearing.{LagsWhereIts}
-use Rattle.mum_worker.specs.Record.{without_room}
+use Rattle.mum_worker.proofs.CommonNames.{◌≡◌, ◌+◌, ◌<◌, length, rules, arith, refl, goes_on, starts, stays, LagsWhereIts, without_room}
 use Rattle.mum_worker.proofs.ports.lag_each.Goals as goal
 
 pub loop-done-init : goal.loop-done-init

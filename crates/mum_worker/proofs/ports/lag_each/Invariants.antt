@@ -1,9 +1,4 @@
-use Rattle.std.proofs.Common.{◌≡◌, ◌≤◌, ◌-◌, length}
-use Rattle.std.specs.VecDeque.{deque_capacity}
-use Rattle.mum_crew.specs.Along.{SomeAlong}
-use Rattle.mum_worker.specs.Facts.{stays}
-use Rattle.mum_worker.specs.Hearing.{LagsWhereIts}
-use Rattle.mum_worker.specs.Record.{without_room}
+use Rattle.mum_worker.proofs.CommonNames.{◌≡◌, ◌≤◌, ◌-◌, length, deque_capacity, SomeAlong, stays, LagsWhereIts, without_room}
 use Rattle.mum_worker.proofs.ports.lag_each.Given as goal
 
 abbrev pub invariant-loop-done : goal.invariant-loop-done

@@ -1,11 +1,5 @@
-use Rattle.std.proofs.Common.{◌<◌, ◌∙◌, length, rules, arith, sym}
-use Rattle.std.proofs.lemmas.List.{length-set}
-use Rattle.std.proofs.lemmas.List.Elements.{All-set}
-use Rattle.mum_crew.proofs.AlongLemmas.{along_more}
+use Rattle.mum_worker.proofs.CommonNames.{◌<◌, ◌∙◌, length, rules, arith, sym, length-set, All-set, along_more, stays, bare, OwnsPasses, PortSteps}
 use Rattle.mum_worker.proofs.Lists.{all_stay_on}
-use Rattle.mum_worker.specs.Facts.{stays}
-use Rattle.mum_worker.specs.Routing.{bare}
-use Rattle.mum_worker.specs.Stepping.{OwnsPasses, PortSteps}
 use Rattle.mum_worker.proofs.ports.step_all.Goals as goal
 
 pub loop-done-preserved : goal.loop-done-preserved

@@ -1,10 +1,4 @@
-use Rattle.std.proofs.Common.{◌≡◌, ◌≤◌, ◌-◌, false, length, take, drop, filter}
-use Rattle.std.specs.List.{All}
-use Rattle.std.specs.VecDeque.{deque_capacity}
-use Rattle.mum_crew.specs.Along.{Along}
-use Rattle.mum_worker.specs.Facts.{stays}
-use Rattle.mum_worker.specs.Routing.{bare}
-use Rattle.mum_worker.specs.Stepping.{OwnsPasses, PortSteps}
+use Rattle.mum_worker.proofs.CommonNames.{◌≡◌, ◌≤◌, ◌-◌, false, length, take, drop, filter, All, deque_capacity, Along, stays, bare, OwnsPasses, PortSteps}
 use Rattle.mum_worker.proofs.ports.step_all.Given as goal
 
 abbrev pub invariant-loop-done : goal.invariant-loop-done

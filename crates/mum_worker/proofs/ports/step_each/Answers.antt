@@ -1,7 +1,4 @@
-use Rattle.std.proofs.Common.{filter}
-use Rattle.std.proofs.lemmas.List.Elements.{All-filter, All-same}
-use Rattle.mum_worker.specs.Facts.{stays}
-use Rattle.mum_worker.specs.Stepping.{OwnsPasses}
+use Rattle.mum_worker.proofs.CommonNames.{filter, All-filter, All-same, stays, OwnsPasses}
 use Rattle.mum_worker.proofs.ports.step_each.Goals as goal
 
 pub returns-clause-owned : goal.returns-clause-owned

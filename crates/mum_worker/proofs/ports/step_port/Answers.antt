@@ -1,16 +1,25 @@
--- The passes of a port that made its step are of the boxes of its slot.
-use Rattle.std.proofs.Common.{List, subst}
-use Rattle.mum_outbox.specs.Facts.{QueueFacts}
-use Rattle.mum_port.specs.Taking.{IsPosted, IsVoiced}
-use Rattle.mum_worker.specs.Boxes.{BoxesFacts}
+-- What came with the parcels that the port took is learnt.
+use Rattle.mum_worker.proofs.CommonNames.{◌≡◌, Option, subst, sym, ForSome, NoteFacts, LearnsGiven, CommonFacts, bare, MakesStep, Shares}
+use Rattle.mum_worker.proofs.Learning.{learnt_too, told_named}
 use Rattle.mum_worker.proofs.ports.step_port.Goals as goal
 
-pub returns-clause-owned : goal.returns-clause-owned
-returns-clause-owned g c = record {
-  posted =
-      subst (λ (boxes : BoxesFacts). IsPosted boxes.posts c.step-step.new.self.passes) c.boxes.view_is
-      (subst (λ (posts : List QueueFacts). IsPosted posts c.step-step.new.self.passes) c.deref.ensures.value c.step-step.ensures.posts);
-  voiced =
-      subst (λ (boxes : BoxesFacts). IsVoiced boxes.voices c.step-step.new.self.passes) c.boxes.view_is
-      (subst (λ (voices : List QueueFacts). IsVoiced voices c.step-step.new.self.passes) c.deref-2.ensures.value c.step-step.ensures.voices);
-}
+pub learn_given-requires : goal.learn_given-requires
+learn_given-requires g c =
+    let passes = c.make_step-worked.new.port.passes in
+    subst (λ (told : Option NoteFacts). ForSome told (λ (note : NoteFacts). note.book ≡ g.N.Naming.opening.book)) (sym c.told.ensures.note)
+    (told_named g.N.Naming.opening passes c.told.ensures.taken)
+
+pub returns-clause-steps : goal.returns-clause-steps
+returns-clause-steps g c =
+    let facts = g.L.Link.facts in
+    let opening = g.N.Naming.opening in
+    let boxes = c.args.boxes.now in
+    let old = c.args.port.now in
+    let new = c.make_step-worked.new.port in
+    let before : Shares = record { common = bare c.args.common.now; desk = c.args.desk.now; worked = c.args.worked } in
+    let inside : CommonFacts = record { router = c.common.inside.router; kept = c.common.inside.kept } in
+    let mid : Shares = record { common = bare inside; desk = c.make_step-worked.new.desk; worked = c.make_step-worked.result } in
+    learnt_too facts opening boxes old before new mid c.learn_given.new.router
+    (subst (λ (common : CommonFacts). MakesStep facts opening boxes old before new (record mid { common = bare common })) (sym c.common.view_is) c.make_step-worked.ensures.steps)
+    c.told.ensures.taken
+    (subst (λ (told : Option NoteFacts). LearnsGiven told c.common.inside.router c.learn_given.new.router) c.told.ensures.note c.learn_given.ensures)

@@ -1,7 +1,4 @@
-use Rattle.std.proofs.Common.{subst}
-use Rattle.std.specs.Prelude.{All}
-use Rattle.mum_published.specs.Facts.{PassFacts}
-use Rattle.mum_worker_laws.specs.Laws.{SeesFrom, history}
+use Rattle.mum_worker_laws.proofs.Common.{subst, All, PassFacts, SeesFrom, history}
 use Rattle.mum_worker_laws.proofs.Going.{go_turns}
 use Rattle.mum_worker_laws.proofs.laws.later_looks_see_more.Goals as goal
 

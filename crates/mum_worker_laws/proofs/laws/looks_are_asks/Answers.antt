@@ -1,6 +1,4 @@
-use Rattle.std.proofs.Common.{◌∙◌, ◌++◌, ap, map}
-use Rattle.mum_published.specs.Facts.{PassFacts}
-use Rattle.mum_worker_laws.specs.Laws.{ask_made, history, looks_in}
+use Rattle.mum_worker_laws.proofs.Common.{◌∙◌, ◌++◌, ap, map, PassFacts, ask_made, history, looks_in}
 use Rattle.mum_worker_laws.proofs.Going.{go_turns}
 use Rattle.mum_worker_laws.proofs.laws.looks_are_asks.Goals as goal
 

@@ -1,4 +1,4 @@
-use Rattle.mum_worker_laws.specs.Laws.{history, looks_in}
+use Rattle.mum_worker_laws.proofs.Common.{history, looks_in}
 use Rattle.mum_worker_laws.proofs.Within.{looks_begin, looks_pair, looks_within}
 use Rattle.mum_worker_laws.proofs.laws.looks_are_of_one_list.Goals as goal
 

@@ -1,7 +1,4 @@
-use Rattle.std.proofs.Common.{◌∙◌, ap}
-use Rattle.mum_published.specs.Facts.{PassFacts}
-use Rattle.mum_router.proofs.Entries.{have_entries, kept_of}
-use Rattle.mum_worker_laws.specs.Laws.{moments_of, packets_in}
+use Rattle.mum_worker_laws.proofs.Common.{◌∙◌, ap, PassFacts, have_entries, kept_of, moments_of, packets_in}
 use Rattle.mum_worker_laws.proofs.Going.{go_turn, go_turns}
 use Rattle.mum_worker_laws.proofs.laws.routes_are_kept.Goals as goal
 

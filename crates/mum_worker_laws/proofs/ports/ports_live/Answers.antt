@@ -1,6 +1,4 @@
-use Rattle.mum_worker_laws.proofs.Ending.{all_orderly}
-use Rattle.mum_worker_laws.proofs.Lasting.{have_lived, opened_settled}
-use Rattle.mum_worker_laws.proofs.Rising.{one_each}
+use Rattle.mum_worker_laws.proofs.{Ending.all_orderly, Lasting.have_lived, Lasting.opened_settled, Rising.one_each}
 use Rattle.mum_worker_laws.proofs.ports.ports_live.Goals as goal
 
 pub returns-clause-lives : goal.returns-clause-lives

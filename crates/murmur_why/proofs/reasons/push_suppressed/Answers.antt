@@ -1,7 +1,6 @@
 use Rattle.std.proofs.Common.{◌∙◌, ◌++◌, ap}
+use Rattle.std.proofs.lemmas.{List.append_assoc, Result.IfOk-equal}
 use Rattle.std.specs.Prelude.{codes}
-use Rattle.std.proofs.lemmas.List.{append_assoc}
-use Rattle.std.proofs.lemmas.Result.{IfOk-equal}
 use Rattle.murmur_why.specs.Reasons.{cut_or_held}
 use Rattle.murmur_why.proofs.reasons.push_suppressed.Goals as goal
 

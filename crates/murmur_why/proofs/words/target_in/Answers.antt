@@ -1,5 +1,5 @@
 use Rattle.std.proofs.Common.{◌∙◌, sym, arith}
-use Rattle.mum_record.proofs.Numbers.{number_within-found}
+use Rattle.mum_record.proofs.Public.{number_within-found}
 use Rattle.murmur_why.proofs.words.target_in.Goals as goal
 
 pub overflow_cast-result : goal.overflow_cast-result

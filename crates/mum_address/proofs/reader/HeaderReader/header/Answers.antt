@@ -1,7 +1,4 @@
-use Rattle.std.proofs.Common.{◌≡◌, ℕ, List, subst, ◌∙◌}
-use Rattle.std.specs.Prelude.{◌↔◌}
-use Rattle.mum_address.specs.Header.{IsHeader, BeginsNone, plain}
-use Rattle.mum_address.specs.Header.Reading.{whole, refused}
+use Rattle.mum_address.proofs.Common.{◌≡◌, ℕ, List, subst, ◌∙◌, ◌↔◌, IsHeader, BeginsNone, plain, whole, refused}
 use Rattle.mum_address.proofs.reader.HeaderReader.header.Goals as goal
 
 pub returns-clause-whole : goal.returns-clause-whole

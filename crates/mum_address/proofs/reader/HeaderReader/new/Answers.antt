@@ -1,5 +1,4 @@
-use Rattle.std.proofs.Common.{sym, subst}
-use Rattle.mum_address.specs.Reader.{IsRead}
+use Rattle.mum_address.proofs.Common.{sym, subst, IsRead}
 use Rattle.mum_address.proofs.reader.HeaderReader.new.Goals as goal
 
 pub invariant_of-result : goal.invariant_of-result

@@ -1,7 +1,4 @@
-use Rattle.std.proofs.Common.{◌≡◌, ◌≤◌, ◌++◌, List, ℕ, sym, subst, length}
-use Rattle.std.specs.Result.{OnOk}
-use Rattle.mum_address.specs.Header.{reading}
-use Rattle.mum_address.specs.Reader.{IsRead, wanted}
+use Rattle.mum_address.proofs.Common.{◌≡◌, ◌≤◌, ◌++◌, List, ℕ, sym, subst, length, OnOk, reading, IsRead, wanted}
 use Rattle.mum_address.proofs.Pieces.{room, read_fits}
 use Rattle.mum_address.proofs.reader.HeaderReader.take.Goals as goal
 

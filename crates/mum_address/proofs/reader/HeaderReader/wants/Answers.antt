@@ -1,7 +1,4 @@
-use Rattle.std.proofs.Common.{◌≡◌, sym, ap, ◌∙◌, arith}
-use Rattle.mum_address.specs.Header.{reading, plain}
-use Rattle.mum_address.specs.Header.Reading.{needs}
-use Rattle.mum_address.specs.Reader.{wanted}
+use Rattle.mum_address.proofs.Common.{◌≡◌, sym, ap, ◌∙◌, arith, reading, plain, needs, wanted}
 use Rattle.mum_address.proofs.Pieces.{wanted-fits}
 use Rattle.mum_address.proofs.reader.HeaderReader.wants.Goals as goal
 

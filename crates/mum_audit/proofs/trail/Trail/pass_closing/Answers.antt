@@ -1,8 +1,5 @@
 -- A connection that is not in the table yet comes last.
-use Rattle.std.proofs.Common.{◌≡◌, ◌∙◌, ◌++◌, ◌∷◌, [], None, nat_eq, ap}
-use Rattle.std.specs.Map.{lookup}
-use Rattle.indexmap.proofs.CallerLemmas.{insert_entry-new}
-use Rattle.mum_audit.specs.Workers.{Trail}
+use Rattle.mum_audit.proofs.Common.{◌≡◌, ◌∙◌, ◌++◌, ◌∷◌, [], None, nat_eq, ap, lookup, insert_entry-new, Trail}
 use Rattle.mum_audit.proofs.trail.Trail.pass_closing.Goals as goal
 
 pub returns : goal.returns

@@ -1,7 +1,4 @@
-use Rattle.std.proofs.Common.{◌∙◌}
-use Rattle.mum_fields.specs.Table.{layout, parts}
-use Rattle.mum_fields.proofs.Sizes.{fields-counted}
-use Rattle.mum_bans.specs.Messages.{ban_entry}
+use Rattle.mum_bans.proofs.Common.{◌∙◌, layout, parts, fields-counted, ban_entry}
 use Rattle.mum_bans.proofs.ban_entry.BanEntryMessage.length.Goals as goal
 
 pub returns : goal.returns

@@ -1,4 +1,4 @@
-use Rattle.std.proofs.Common.{is_ok, ap, ◌∙◌}
+use Rattle.mum_bans.proofs.Common.{is_ok, ap, ◌∙◌}
 use Rattle.mum_bans.proofs.Reading.{surveyed_list}
 use Rattle.mum_bans.proofs.ban_list.BanList.is_list.Goals as goal
 

@@ -1,4 +1,4 @@
-use Rattle.std.proofs.Common.{◌∙◌}
+use Rattle.mum_bans.proofs.Common.{◌∙◌}
 use Rattle.mum_bans.proofs.Reading.{list_read, surveyed_list}
 use Rattle.mum_bans.proofs.ban_list.BanList.read.Goals as goal
 

@@ -1,7 +1,4 @@
-use Rattle.std.proofs.Common.{◌∷◌, [], ◌++◌, sym, ap, ◌∙◌}
-use Rattle.mum_bans.specs.declared.ban.Ban.{Ban}
-use Rattle.mum_bans.specs.Book.{last_bans}
-use Rattle.mum_bans.specs.Limits.{is_sound_book}
+use Rattle.mum_bans.proofs.Common.{◌∷◌, [], ◌++◌, sym, ap, ◌∙◌, Ban, last_bans, is_sound_book}
 use Rattle.mum_bans.proofs.Soundness.{added_sound}
 use Rattle.mum_bans.proofs.book.BanBook.add.Goals as goal
 

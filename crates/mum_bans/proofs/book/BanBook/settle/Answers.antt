@@ -1,8 +1,5 @@
-use Rattle.std.proofs.Common.{◌≤◌, ℕ, List, length, sym, ap, subst, ◌∙◌}
-use Rattle.mum_frame.specs.declared.frame.TheConstants.{PAYLOAD_LIMIT}
-use Rattle.mum_bans.specs.Answer.{answer}
-use Rattle.mum_bans.proofs.Sizes.{answer_fits}
-use Rattle.mum_bans.proofs.Soundness.{set_sound}
+use Rattle.mum_bans.proofs.Common.{◌≤◌, ℕ, List, length, sym, ap, subst, ◌∙◌, PAYLOAD_LIMIT, answer}
+use Rattle.mum_bans.proofs.{Sizes.answer_fits, Soundness.set_sound}
 use Rattle.mum_bans.proofs.book.BanBook.settle.Goals as goal
 
 pub returns-then-unwrap_or-clause-fits : goal.returns-then-unwrap_or-clause-fits

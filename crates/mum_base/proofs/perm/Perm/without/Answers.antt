@@ -1,6 +1,6 @@
 use Rattle.std.proofs.Common.{ap, ◌∙◌, min, w32, rules}
-use Rattle.std.specs.Int.{bit_at, bit_not}
 use Rattle.std.proofs.lemmas.Nat.Bits.{bit_at_and, bit_at_not}
+use Rattle.std.specs.Int.{bit_at, bit_not}
 use Rattle.mum_base.proofs.perm.Perm.without.Goals as goal
 
 -- src/perm.rt:77:5

@@ -1,7 +1,4 @@
-use Rattle.std.proofs.Common.{◌∙◌, ◌*◌, ap, length}
-use Rattle.std.proofs.lemmas.List.{length-replicate}
-use Rattle.mum_base.specs.declared.number.TheConstants.{PLACES, SLOTS}
-use Rattle.mum_cache.specs.Perms.{no_perm, no_perms}
+use Rattle.mum_cache.proofs.Common.{◌∙◌, ◌*◌, ap, length, length-replicate, PLACES, SLOTS, no_perm, no_perms}
 use Rattle.mum_cache.proofs.perms.PermCache.new.Goals as goal
 
 pub invariant_of-result : goal.invariant_of-result

@@ -1,10 +1,4 @@
-use Rattle.std.proofs.Common.{◌≡◌, ◌∙◌, List, Option, None, ap, subst}
-use Rattle.std.specs.Prelude.{MatchOption}
-use Rattle.mum_state.specs.Permissions.{perm_of}
-use Rattle.mum_cache.specs.declared.perms.Key.{Key}
-use Rattle.mum_cache.specs.declared.perms.PermEntry.{PermEntry}
-use Rattle.mum_cache.specs.Keys.{IsKey}
-use Rattle.mum_cache.specs.Perms.{answers, kept_at}
+use Rattle.mum_cache.proofs.Common.{◌≡◌, ◌∙◌, List, Option, None, ap, subst, MatchOption, perm_of, Key, PermEntry, IsKey, answers, kept_at}
 use Rattle.mum_cache.proofs.Answered.{answered_answers}
 use Rattle.mum_cache.proofs.perms.PermCache.permissions_at.Goals as goal
 

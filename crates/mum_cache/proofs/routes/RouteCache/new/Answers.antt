@@ -1,4 +1,4 @@
-use Rattle.mum_cache.specs.Routes.{no_routes}
+use Rattle.mum_cache.proofs.Common.{no_routes}
 use Rattle.mum_cache.proofs.routes.RouteCache.new.Goals as goal
 
 pub returns : goal.returns

@@ -1,16 +1,5 @@
-use Rattle.std.proofs.Common.{◌≡◌, ◌∙◌, ◌<◌, List, Some, get_or, ap, arith, subst, sym}
-use Rattle.std.specs.Option.{option_copied}
-use Rattle.mum_base.specs.declared.number.SessionId.{SessionId}
-use Rattle.mum_users.specs.State.{RosterState}
-use Rattle.mum_users.specs.Sessions.{session_of}
-use Rattle.mum_route.specs.Aims.{members_by}
-use Rattle.mum_route.specs.Hearers.{hearers_of}
-use Rattle.mum_route.specs.Route.{route}
-use Rattle.mum_cache.specs.declared.routes.RouteEntry.{RouteEntry}
-use Rattle.mum_cache.specs.Routes.{IsRouteEntry, KeepsRoute, RouteAnswers, no_route, route_index, route_kept_at}
-use Rattle.mum_cache.proofs.Answered.{get_same}
-use Rattle.mum_cache.proofs.Kept.{aimed_below, heard_kept, is_speaker, kept_stands}
-use Rattle.mum_cache.proofs.Others.{number_is}
+use Rattle.mum_cache.proofs.Common.{◌≡◌, ◌∙◌, ◌<◌, List, Some, get_or, ap, arith, subst, sym, option_copied, SessionId, RosterState, session_of, members_by, hearers_of, route, RouteEntry, IsRouteEntry, KeepsRoute, RouteAnswers, no_route, route_index, route_kept_at}
+use Rattle.mum_cache.proofs.{Answered.get_same, Kept.aimed_below, Kept.heard_kept, Kept.is_speaker, Kept.kept_stands, Others.number_is}
 use Rattle.mum_cache.proofs.routes.RouteCache.route_at.Goals as goal
 
 pub keep-requires-clause-speaker : goal.keep-requires-clause-speaker

@@ -1,4 +1,4 @@
-use Rattle.std.proofs.Common.{◌≡◌, ◌<◌, ◌≤◌, ◌∙◌, length, get_or, vec_capacity, sym, ap, arith}
+use Rattle.mum_cache.proofs.Common.{◌≡◌, ◌<◌, ◌≤◌, ◌∙◌, length, get_or, vec_capacity, sym, ap, arith}
 use Rattle.mum_cache.proofs.Padded.{padded_behind, padded_length, padded_written}
 use Rattle.mum_cache.proofs.table.Table.at.Goals as goal
 

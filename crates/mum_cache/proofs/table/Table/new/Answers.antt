@@ -1,5 +1,4 @@
-use Rattle.std.proofs.Common.{◌∙◌, ℕ, ap}
-use Rattle.mum_cache.specs.Table.{padded}
+use Rattle.mum_cache.proofs.Common.{◌∙◌, ℕ, ap, padded}
 use Rattle.mum_cache.proofs.Padded.{padded_none}
 use Rattle.mum_cache.proofs.table.Table.new.Goals as goal
 

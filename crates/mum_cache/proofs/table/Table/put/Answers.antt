@@ -1,4 +1,4 @@
-use Rattle.std.proofs.Common.{◌≡◌, ◌≤◌, ◌∙◌, length, set, vec_capacity, sym, ap, arith}
+use Rattle.mum_cache.proofs.Common.{◌≡◌, ◌≤◌, ◌∙◌, length, set, vec_capacity, sym, ap, arith}
 use Rattle.mum_cache.proofs.Padded.{padded_length, padded_set}
 use Rattle.mum_cache.proofs.table.Table.put.Goals as goal
 

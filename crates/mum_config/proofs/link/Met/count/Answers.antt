@@ -1,5 +1,4 @@
-use Rattle.std.proofs.Common.{ap, ◌∙◌}
-use Rattle.std.specs.Prelude.{unwrap_or}
+use Rattle.mum_config.proofs.Common.{ap, ◌∙◌, unwrap_or}
 use Rattle.mum_config.proofs.link.Met.count.Goals as goal
 
 pub returns : goal.returns

@@ -1,5 +1,4 @@
-use Rattle.std.proofs.lemmas.Result.{err_from_is_err_and}
-use Rattle.mum_document.proofs.First.{out_of_memory}
+use Rattle.mum_config.proofs.Common.{err_from_is_err_and, out_of_memory}
 use Rattle.mum_config.proofs.link.Met.note.Goals as goal
 
 pub returns-in_err-add-clause-reads : goal.returns-in_err-add-clause-reads

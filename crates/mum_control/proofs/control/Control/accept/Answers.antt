@@ -1,6 +1,4 @@
-use Rattle.std.proofs.Common.{inl, inr, subst}
-use Rattle.mum_control.specs.Commanded.{IsDropped}
-use Rattle.mum_control.specs.Facts.{ControlFacts}
+use Rattle.mum_control.proofs.Common.{inl, inr, subst, IsDropped, ControlFacts}
 use Rattle.mum_control.proofs.Settling.{accepts_so}
 use Rattle.mum_control.proofs.control.Control.accept.Goals as goal
 

@@ -1,12 +1,4 @@
-use Rattle.std.proofs.Common.{◌∙◌, List, ap, subst, sym}
-use Rattle.std.specs.Prelude.{IsTrue}
-use Rattle.std.specs.Vec.{vec_capacity}
-use Rattle.mum_published.specs.declared.roll.Login.{Login}
-use Rattle.mum_published.specs.Facts.{PublisherFacts}
-use Rattle.mum_published.specs.Rolls.{is_admitted}
-use Rattle.mum_published.proofs.Rolls.{admitted_last}
-use Rattle.mum_control.specs.Commanded.{with_login}
-use Rattle.mum_control.specs.Facts.{ControlFacts}
+use Rattle.mum_control.proofs.Common.{◌∙◌, List, ap, subst, sym, IsTrue, vec_capacity, Login, PublisherFacts, is_admitted, admitted_last, with_login, ControlFacts}
 use Rattle.mum_control.proofs.Keeping.{kept_admitting}
 use Rattle.mum_control.proofs.control.Control.admit.Goals as goal
 

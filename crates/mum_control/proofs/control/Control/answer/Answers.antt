@@ -1,13 +1,5 @@
-use Rattle.std.proofs.Common.{◌∙◌, List, Option, ap, subst, sym}
-use Rattle.std.specs.Prelude.{IsTrue, is_none}
-use Rattle.std.specs.Vec.{vec_capacity}
-use Rattle.mum_published.specs.declared.roll.Login.{Login}
-use Rattle.mum_published.specs.Facts.{NoteFacts, ReplyFacts}
-use Rattle.mum_published.specs.Rolls.{is_admitted}
-use Rattle.mum_control.specs.Commanded.{Publishes}
-use Rattle.mum_control.specs.Facts.{ControlFacts}
-use Rattle.mum_control.proofs.Keeping.{kept_publishing, note_named}
-use Rattle.mum_control.proofs.Settling.{none_so, roll_left}
+use Rattle.mum_control.proofs.Common.{◌∙◌, List, Option, ap, subst, sym, IsTrue, is_none, vec_capacity, Login, NoteFacts, ReplyFacts, is_admitted, Publishes, ControlFacts}
+use Rattle.mum_control.proofs.{Keeping.kept_publishing, Keeping.note_named, Settling.none_so, Settling.roll_left}
 use Rattle.mum_control.proofs.control.Control.answer.Goals as goal
 
 pub new-requires-clause-note : goal.new-requires-clause-note

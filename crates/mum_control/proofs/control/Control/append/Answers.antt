@@ -1,17 +1,6 @@
-use Rattle.std.proofs.Common.{◌∙◌, ℕ, Some, ap, length, subst, sym}
-use Rattle.std.specs.Prelude.{IsTrue, filter}
-use Rattle.std.specs.Vec.{vec_capacity}
+use Rattle.mum_control.proofs.Common.{◌∙◌, ℕ, Some, ap, length, subst, sym, IsTrue, filter, vec_capacity, fits, IsProper, StateValue, appended, PublisherFacts, accepted, current, ControlFacts, is_there}
+use Rattle.mum_control.proofs.{Appending.revision_more, Keeping.accepted_so, Keeping.kept_accepting, Keeping.kept_same, Keeping.slots_so}
 use Rattle.mum_base.specs.declared.reply.Mark.TheVariants as marks
-use Rattle.mum_state.specs.Fits.{fits}
-use Rattle.mum_state.specs.Proper.{IsProper}
-use Rattle.mum_state.specs.State.{StateValue}
-use Rattle.mum_published.specs.Calls.{appended}
-use Rattle.mum_published.specs.Facts.{PublisherFacts}
-use Rattle.mum_control.specs.Commanded.{accepted, current}
-use Rattle.mum_control.specs.Facts.{ControlFacts}
-use Rattle.mum_control.specs.Kept.{is_there}
-use Rattle.mum_control.proofs.Appending.{revision_more}
-use Rattle.mum_control.proofs.Keeping.{accepted_so, kept_accepting, kept_same, slots_so}
 use Rattle.mum_control.proofs.control.Control.append.Goals as goal
 
 pub accept_edit-requires-clause-fits : goal.accept_edit-requires-clause-fits

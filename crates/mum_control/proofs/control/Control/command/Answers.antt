@@ -1,7 +1,4 @@
-use Rattle.std.proofs.Common.{inl, subst}
-use Rattle.std.specs.Prelude.{◌⊎◌}
-use Rattle.mum_state.specs.declared.verdict.Verdict.{Verdict}
-use Rattle.mum_control.specs.Commanded.{Decides, IsDropped}
+use Rattle.mum_control.proofs.Common.{inl, subst, ◌⊎◌, Verdict, Decides, IsDropped}
 use Rattle.mum_control.proofs.control.Control.command.Goals as goal
 
 pub returns-in-Ok : goal.returns-in-Ok

@@ -1,8 +1,4 @@
-use Rattle.std.proofs.Common.{◌≡◌, ◌∙◌, IfOk, ap, subst}
-use Rattle.mum_state.specs.State.{StateValue}
-use Rattle.mum_rules_tree.specs.Decision.{FitsWhereAccepted}
-use Rattle.mum_session.specs.Verdict.{verdict}
-use Rattle.mum_control.specs.Commanded.{current}
+use Rattle.mum_control.proofs.Common.{◌≡◌, ◌∙◌, IfOk, ap, subst, StateValue, FitsWhereAccepted, verdict, current}
 use Rattle.mum_control.proofs.control.Control.decide.Goals as goal
 
 pub returns-clause-verdict : goal.returns-clause-verdict

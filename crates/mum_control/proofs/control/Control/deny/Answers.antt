@@ -1,14 +1,8 @@
-use Rattle.std.proofs.Common.{◌∙◌, Some, ap, inl, inr, refl, subst, sym}
-use Rattle.std.specs.Prelude.{IsTrue}
-use Rattle.mum_base.specs.declared.reply.Mark.{Mark}
-use Rattle.mum_base.specs.declared.reply.ReplyEnd.{ReplyEnd}
-use Rattle.mum_published.specs.Rolls.{is_admitted}
-use Rattle.mum_control.specs.Commanded.{next_revision}
-use Rattle.mum_control.specs.Facts.{ControlFacts}
+use Rattle.mum_control.proofs.Common.{◌∙◌, Some, ap, inl, inr, refl, subst, sym, IsTrue, Mark, ReplyEnd, is_admitted, next_revision, ControlFacts}
 use Rattle.mum_control.proofs.Settling.{denied_admits_none, mark_of_denied, reply_so}
 use Rattle.mum_control.proofs.control.Control.deny.Goals as goal
 
--- its end tells of no login
+-- its end reports no login
 pub new-requires-clause-admitted : goal.new-requires-clause-admitted
 new-requires-clause-admitted g c =
     subst (λ (e : ReplyEnd). IsTrue (is_admitted e c.args.connection c.roll-roll.result.log)) (sym c.end_of-end.ensures)

@@ -1,11 +1,4 @@
-use Rattle.std.proofs.Common.{◌≡◌, ◌∙◌, Option, Some, ap, length, refl, rules, subst, sym, arith}
-use Rattle.mum_base.specs.declared.number.Slot.{Slot}
-use Rattle.mum_base.specs.declared.number.TheConstants.{SLOTS}
-use Rattle.mum_state.specs.State.{StateValue}
-use Rattle.mum_control.specs.Commanded.{current}
-use Rattle.mum_control.specs.Facts.{ControlFacts}
-use Rattle.mum_control.specs.Kept.{slot_of}
-use Rattle.mum_control.specs.Posting.{EmptiesPost}
+use Rattle.mum_control.proofs.Common.{◌≡◌, ◌∙◌, Option, Some, ap, length, refl, rules, subst, sym, arith, Slot, SLOTS, StateValue, current, ControlFacts, slot_of, EmptiesPost}
 use Rattle.mum_control.proofs.control.Control.empty_post.Goals as goal
 
 pub empty_at-requires : goal.empty_at-requires

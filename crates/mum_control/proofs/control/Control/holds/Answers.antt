@@ -1,8 +1,4 @@
-use Rattle.std.proofs.Common.{◌∙◌, ap, subst}
-use Rattle.std.specs.Prelude.{◌↔◌, IsTrue}
-use Rattle.mum_state.specs.State.{StateValue}
-use Rattle.mum_control.specs.Commanded.{current}
-use Rattle.mum_control.specs.Kept.{MayIn}
+use Rattle.mum_control.proofs.Common.{◌∙◌, ap, subst, ◌↔◌, IsTrue, StateValue, current, MayIn}
 use Rattle.mum_control.proofs.control.Control.holds.Goals as goal
 
 pub returns : goal.returns

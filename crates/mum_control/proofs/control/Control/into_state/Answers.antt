@@ -1,6 +1,4 @@
-use Rattle.std.proofs.Common.{◌∙◌, ap, sym}
-use Rattle.mum_control.specs.Commanded.{current}
-use Rattle.mum_control.specs.Facts.{ControlFacts}
+use Rattle.mum_control.proofs.Common.{◌∙◌, ap, sym, current, ControlFacts}
 use Rattle.mum_control.proofs.control.Control.into_state.Goals as goal
 
 pub returns-clause-state : goal.returns-clause-state

@@ -1,7 +1,4 @@
-use Rattle.std.proofs.Common.{◌∙◌, ap}
-use Rattle.mum_state.specs.State.{StateValue}
-use Rattle.mum_control.specs.Commanded.{current}
-use Rattle.mum_control.specs.Kept.{is_there}
+use Rattle.mum_control.proofs.Common.{◌∙◌, ap, StateValue, current, is_there}
 use Rattle.mum_control.proofs.control.Control.is_there.Goals as goal
 
 pub returns : goal.returns

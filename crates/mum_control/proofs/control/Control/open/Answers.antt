@@ -1,8 +1,5 @@
-use Rattle.std.proofs.Common.{◌∙◌, ap}
-use Rattle.std.specs.Vec.{vec_capacity}
-use Rattle.mum_published.specs.Facts.{PublisherFacts}
-use Rattle.mum_control.proofs.Boxes.{as_many}
-use Rattle.mum_control.proofs.Keeping.{kept_opening}
+use Rattle.mum_control.proofs.Common.{◌∙◌, ap, vec_capacity, PublisherFacts}
+use Rattle.mum_control.proofs.{Boxes.as_many, Keeping.kept_opening}
 use Rattle.mum_control.proofs.control.Control.open.Goals as goal
 
 pub invariant_of-result : goal.invariant_of-result

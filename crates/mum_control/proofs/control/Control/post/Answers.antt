@@ -1,5 +1,4 @@
-use Rattle.std.proofs.Common.{◌≡◌, length, arith}
-use Rattle.mum_base.specs.declared.number.TheConstants.{SLOTS}
+use Rattle.mum_control.proofs.Common.{◌≡◌, length, arith, SLOTS}
 use Rattle.mum_control.proofs.control.Control.post.Goals as goal
 
 -- each slot has a box

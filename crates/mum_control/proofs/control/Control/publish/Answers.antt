@@ -1,13 +1,5 @@
-use Rattle.std.proofs.Common.{◌≡◌, ◌∙◌, IfOk, ap, subst}
-use Rattle.std.specs.Result.{result_ok}
-use Rattle.std.specs.Vec.{vec_capacity}
-use Rattle.std.proofs.lemmas.Result.{on_err_weaker, on_ok_weaker}
-use Rattle.mum_published.specs.Calls.{all_published}
-use Rattle.mum_published.specs.Facts.{PublisherFacts}
-use Rattle.mum_control.specs.Commanded.{note_of}
-use Rattle.mum_control.specs.Facts.{ControlFacts}
-use Rattle.mum_control.proofs.Keeping.{kept_publishing}
-use Rattle.mum_control.proofs.Settling.{publishes_so}
+use Rattle.mum_control.proofs.Common.{◌≡◌, ◌∙◌, IfOk, ap, subst, result_ok, vec_capacity, on_err_weaker, on_ok_weaker, all_published, PublisherFacts, note_of, ControlFacts}
+use Rattle.mum_control.proofs.{Keeping.kept_publishing, Settling.publishes_so}
 use Rattle.mum_control.proofs.control.Control.publish.Goals as goal
 
 pub invariant_of-self : goal.invariant_of-self

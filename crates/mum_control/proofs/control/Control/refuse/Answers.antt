@@ -1,5 +1,4 @@
-use Rattle.std.proofs.Common.{◌∙◌, None, ap, refl}
-use Rattle.mum_control.specs.Facts.{ControlFacts}
+use Rattle.mum_control.proofs.Common.{◌∙◌, None, ap, refl, ControlFacts}
 use Rattle.mum_control.proofs.Settling.{reply_so}
 use Rattle.mum_control.proofs.control.Control.refuse.Goals as goal
 

@@ -1,6 +1,4 @@
-use Rattle.std.proofs.Common.{◌∙◌, ap}
-use Rattle.mum_published.specs.Facts.{Opening}
-use Rattle.mum_control.specs.Facts.{ControlFacts}
+use Rattle.mum_control.proofs.Common.{◌∙◌, ap, Opening, ControlFacts}
 use Rattle.mum_control.proofs.control.Control.roll.Goals as goal
 
 pub returns-clause-book : goal.returns-clause-book

@@ -1,11 +1,4 @@
-use Rattle.std.proofs.Common.{◌∙◌, subst, ap}
-use Rattle.std.specs.List.{AllByRecursion}
-use Rattle.mum_state.specs.declared.verdict.Verdict.{Verdict}
-use Rattle.mum_rules_tree.specs.Decision.{FitsWhereAccepted}
-use Rattle.mum_notify.specs.Notices.{FitsFrame}
-use Rattle.mum_session.specs.Reply.{reply_end}
-use Rattle.mum_session.specs.Verdict.{edits_of}
-use Rattle.mum_control.specs.Commanded.{current}
+use Rattle.mum_control.proofs.Common.{◌∙◌, subst, ap, AllByRecursion, Verdict, FitsWhereAccepted, FitsFrame, reply_end, edits_of, current}
 use Rattle.mum_control.proofs.Settling.{settled_accepting, settled_denying}
 use Rattle.mum_control.proofs.control.Control.settle.Goals as goal
 

@@ -1,5 +1,4 @@
-use Rattle.std.specs.Vec.{vec_capacity}
-use Rattle.mum_control.specs.Facts.{ControlFacts}
+use Rattle.mum_control.proofs.Common.{vec_capacity, ControlFacts}
 use Rattle.mum_control.proofs.Keeping.{kept_front, taken_so}
 use Rattle.mum_control.proofs.control.Control.take_notice.Goals as goal
 
@@ -13,6 +12,6 @@ pub returns : goal.returns
 returns g c =
     let inside = c.self.inside in
     let control : ControlFacts = record { publisher = inside.edits; posts = inside.posts.items; pending = inside.pending; lagged = inside.lagged.items; mark = inside.mark } in
-    taken_so c.take_front.result c.args.self.now control c.take_front.new.self c.self.view_is c.take_front.ensures
+    taken_so c.take_front.result g.N.Naming.opening c.args.self.now control c.take_front.new.self c.self.view_is c.take_front.ensures
     (kept_front c.take_front.result g.N.Naming.opening inside.edits inside.posts.items inside.pending c.take_front.new.self inside.lagged.items
     (vec_capacity inside.lagged) c.self.invariant c.take_front.ensures).1

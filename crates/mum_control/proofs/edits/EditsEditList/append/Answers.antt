@@ -1,15 +1,5 @@
-use Rattle.std.proofs.Common.{◌∙◌, ap, refl, subst, sym}
-use Rattle.std.specs.Prelude.{IfSome, IsTrue}
-use Rattle.mum_state.specs.declared.edit.Edit.{Edit}
-use Rattle.mum_state.specs.Applied.{applied}
-use Rattle.mum_state.specs.Fits.{fits}
-use Rattle.mum_state.specs.State.{StateValue}
-use Rattle.mum_published.specs.Calls.{IsLast, appended, latest}
-use Rattle.mum_published.specs.Facts.{PublisherFacts}
-use Rattle.mum_published.proofs.Latest.{kept_up}
-use Rattle.mum_control.specs.Commanded.{with_edit}
-use Rattle.mum_control.proofs.Appending.{leads}
-use Rattle.mum_control.proofs.Copied.{copied}
+use Rattle.mum_control.proofs.Common.{◌∙◌, ap, subst, sym, IfSome, IsTrue, Edit, applied, fits, StateValue, IsLast, appended, latest, PublisherFacts, with_edit}
+use Rattle.mum_control.proofs.{Appending.leads, Copied.copied}
 use Rattle.mum_control.proofs.edits.EditsEditList.append.Goals as goal
 
 -- the edit that was appended last is this one

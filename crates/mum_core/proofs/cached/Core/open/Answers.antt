@@ -1,8 +1,4 @@
-use Rattle.std.proofs.Common.{◌∙◌, ap}
-use Rattle.std.proofs.lemmas.Result.{IfOk-weaker}
-use Rattle.mum_record.specs.declared.head.Version.{Version}
-use Rattle.mum_state.specs.State.{StateValue}
-use Rattle.mum_core.specs.Core.{start, version_of}
+use Rattle.mum_core.proofs.Common.{◌∙◌, ap, IfOk-weaker, Version, StateValue, start, version_of}
 use Rattle.mum_core.proofs.cached.Core.open.Goals as goal
 
 pub returns-clause-state : goal.returns-clause-state

@@ -1,4 +1,4 @@
-use Rattle.mum_record.specs.declared.step.Step.TheVariants.{Tell}
+use Rattle.mum_core.proofs.Common.{Tell}
 use Rattle.mum_core.proofs.Looking.{each_given}
 use Rattle.mum_core.proofs.cached.Core.step.Goals as goal
 

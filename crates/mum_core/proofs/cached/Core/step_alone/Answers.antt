@@ -1,4 +1,4 @@
-use Rattle.std.proofs.Common.{refl, inl, inr}
+use Rattle.mum_core.proofs.Common.{refl, inl, inr}
 use Rattle.mum_core.proofs.Answered.{alone_gives}
 use Rattle.mum_core.proofs.cached.Core.step_alone.Goals as goal
 

@@ -1,9 +1,4 @@
-use Rattle.std.proofs.Common.{◌∙◌, List, Option, Some, ap, subst, sym}
-use Rattle.mum_cache.specs.declared.caches.Caches.{Caches}
-use Rattle.mum_cache.specs.declared.routes.RouteEntry.{RouteEntry}
-use Rattle.mum_core.specs.Caches.{CachedCore, EachIsSound, KeepsFor, LooksThrough}
-use Rattle.mum_core.specs.Core.{CoreState, state_at, worker_at}
-use Rattle.mum_core.specs.Lists.{changed_at}
+use Rattle.mum_core.proofs.Common.{◌∙◌, List, Option, Some, ap, subst, sym, Caches, RouteEntry, CachedCore, EachIsSound, KeepsFor, LooksThrough, CoreState, state_at, worker_at, changed_at}
 use Rattle.mum_core.proofs.Looking.{each_looked, each_without, looks_through, sound_at_look}
 use Rattle.mum_core.proofs.cached.Core.take_look.Goals as goal
 

@@ -1,5 +1,4 @@
-use Rattle.std.proofs.Common.{◌∙◌, sym}
-use Rattle.mum_core.specs.Connection.{next_of_frame}
+use Rattle.mum_core.proofs.Common.{◌∙◌, sym, next_of_frame}
 use Rattle.mum_core.proofs.Nexts.{frame_answered}
 use Rattle.mum_core.proofs.connection.Connection.answer.Goals as goal
 

@@ -1,4 +1,4 @@
-use Rattle.std.proofs.Common.{arith}
+use Rattle.mum_core.proofs.Common.{arith}
 use Rattle.mum_core.proofs.Begun.{is_start, kept_at_start}
 use Rattle.mum_core.proofs.machine.Machine.begin.Goals as goal
 

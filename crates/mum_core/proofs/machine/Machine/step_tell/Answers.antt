@@ -1,4 +1,4 @@
-use Rattle.mum_record.specs.declared.step.Step.TheVariants.{Tell}
+use Rattle.mum_core.proofs.Common.{Tell}
 use Rattle.mum_core.proofs.Taken.{given_of}
 use Rattle.mum_core.proofs.machine.Machine.step_tell.Goals as goal
 

@@ -1,8 +1,4 @@
-use Rattle.std.proofs.Common.{◌∙◌, Some, ap, drop, map, slice_get, sym}
-use Rattle.std.specs.Prelude.{if◌then◌else◌}
-use Rattle.mum_notify.specs.declared.notice.Notice.{Notice}
-use Rattle.mum_core.specs.Connection.{is_of, lagging}
-use Rattle.mum_core.specs.Core.{CoreState, up}
+use Rattle.mum_core.proofs.Common.{◌∙◌, Some, ap, drop, map, slice_get, sym, if◌then◌else◌, Notice, is_of, lagging, CoreState, up}
 use Rattle.mum_core.proofs.Lagged.{found_full, lags}
 use Rattle.mum_core.proofs.machine.Machine.take_post.Goals as goal
 

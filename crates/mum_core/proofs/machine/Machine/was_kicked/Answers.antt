@@ -1,6 +1,4 @@
-use Rattle.std.proofs.Common.{◌∙◌, rules}
-use Rattle.mum_tree.proofs.Shrunk.{list_any-reverse}
-use Rattle.mum_core.specs.steps.Close.{kicks}
+use Rattle.mum_core.proofs.Common.{◌∙◌, rules, list_any-reverse, kicks}
 use Rattle.mum_core.proofs.machine.Machine.was_kicked.Goals as goal
 
 pub returns : goal.returns

@@ -1,9 +1,4 @@
-use Rattle.std.proofs.Common.{◌≡◌, ◌∙◌, ℕ, List, [], ◌∷◌, ◌++◌, Some, false, refl, sym, ap}
-use Rattle.std.specs.Prelude.{string_bytes, codes, decimal}
-use Rattle.mum_base.specs.declared.number.SessionId.{SessionId}
-use Rattle.mum_core.specs.declared.connection.Seat.{Seat}
-use Rattle.mum_core.specs.Delivery.{Delivery, is_for, line}
-use Rattle.mum_core.specs.Line.{joined}
+use Rattle.mum_core.proofs.Common.{◌≡◌, ◌∙◌, ℕ, List, [], ◌∷◌, ◌++◌, Some, false, refl, sym, ap, string_bytes, codes, decimal, SessionId, Seat, Delivery, is_for, line, joined}
 use Rattle.mum_core.proofs.machine.delivery.push_taken.Goals as goal
 
 stale_words : (c : ℕ) (seat : Seat) (oldest : Delivery) → is_for oldest.to seat ≡ false → codes "stale" ∷ decimal c ∷ [] ≡ line c seat (Some oldest)

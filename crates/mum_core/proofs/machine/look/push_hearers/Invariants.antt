@@ -1,7 +1,4 @@
-use Rattle.std.proofs.Common.{◌≡◌, ◌++◌, ◌∷◌, take}
-use Rattle.std.specs.Prelude.{string_bytes}
-use Rattle.std.specs.List.{flat_map}
-use Rattle.mum_core.specs.steps.Look.{hearer_word}
+use Rattle.mum_core.proofs.Common.{◌≡◌, ◌++◌, ◌∷◌, take, string_bytes, flat_map, hearer_word}
 use Rattle.mum_core.proofs.machine.look.push_hearers.Given as goal
 
 abbrev pub invariant-loop-hearer : goal.invariant-loop-hearer

@@ -1,9 +1,4 @@
-use Rattle.std.proofs.Common.{◌≡◌, ◌∙◌, ap, List, ℕ, [], ◌∷◌, ◌++◌, length, append_assoc}
-use Rattle.std.proofs.lemmas.Result.{IfOk-weaker}
-use Rattle.std.specs.Prelude.{string_bytes, codes, decimal}
-use Rattle.std.specs.List.{flat_map}
-use Rattle.mum_record.specs.Words.{line_of_words}
-use Rattle.mum_core.specs.steps.Look.{hearer_word}
+use Rattle.mum_core.proofs.Common.{◌≡◌, ◌∙◌, ap, List, ℕ, [], ◌∷◌, ◌++◌, length, append_assoc, IfOk-weaker, string_bytes, codes, decimal, flat_map, line_of_words, hearer_word}
 use Rattle.mum_core.proofs.Routes.{route_line}
 use Rattle.mum_core.proofs.machine.look.push_route.Goals as goal
 

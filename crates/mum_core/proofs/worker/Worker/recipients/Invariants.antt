@@ -1,6 +1,4 @@
-use Rattle.std.proofs.Common.{◌≡◌, ◌++◌, map}
-use Rattle.std.specs.VecDeque.Iter.{deque_iter_rest}
-use Rattle.mum_core.specs.declared.worker.Outgoing.{Outgoing}
+use Rattle.mum_core.proofs.Common.{◌≡◌, ◌++◌, map, deque_iter_rest, Outgoing}
 use Rattle.mum_core.proofs.worker.Worker.recipients.Given as goal
 
 -- those so far and those to come are all of them

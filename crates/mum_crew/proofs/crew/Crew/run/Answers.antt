@@ -1,10 +1,5 @@
-use Rattle.std.proofs.Common.{◌≡◌}
-use Rattle.std.specs.List.{AllZip}
-use Rattle.mum_crew.specs.Turns.{Came}
-use Rattle.mum_crew.specs.declared.crew.CrewEnd.{CrewEnd}
-use Rattle.mum_crew.proofs.TurnLemmas.{came_openings, came_turned}
-use Rattle.mum_crew.proofs.crew.Crew.run.Given.{Over}
-use Rattle.mum_crew.proofs.crew.Crew.run.Goals.{After-count, in-Threads, in-Turns}
+use Rattle.mum_crew.proofs.Common.{◌≡◌, AllZip, Came, CrewEnd}
+use Rattle.mum_crew.proofs.{TurnLemmas.came_openings, TurnLemmas.came_turned, crew.Crew.run.Given.Over, crew.Crew.run.Goals.After-count, crew.Crew.run.Goals.in-Threads, crew.Crew.run.Goals.in-Turns}
 use Rattle.mum_crew.proofs.crew.Crew.run.Goals as goal
 
 -- in threads or in this one, the roles came to those that are back

@@ -1,8 +1,5 @@
-use Rattle.std.proofs.Common.{refl}
-use Rattle.std.proofs.lemmas.Result.{err_from_is_err_and}
-use Rattle.serde_json.specs.View.{view}
+use Rattle.mum_document.proofs.Common.{refl, err_from_is_err_and, view, entry_list_rows, group_list_rows}
 use Rattle.mum_document.proofs.First.{first, later, none_said, rows_first, rows_later, rows_none}
-use Rattle.mum_document.specs.Given.{entry_list_rows, group_list_rows}
 use Rattle.mum_document.proofs.given.GivenPolicy.read.Goals as goal
 
 pub returns-in_err-inherit_acls : goal.returns-in_err-inherit_acls

@@ -1,5 +1,4 @@
-use Rattle.std.proofs.Common.{sym, refl}
-use Rattle.std.proofs.lemmas.Result.{err_from_is_err_and}
+use Rattle.mum_document.proofs.Common.{sym, refl, err_from_is_err_and}
 use Rattle.mum_document.proofs.Lists.{given_none, given_some}
 use Rattle.mum_document.proofs.object.Object.elements.Goals as goal
 

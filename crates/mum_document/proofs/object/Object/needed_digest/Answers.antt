@@ -1,4 +1,4 @@
-use Rattle.std.proofs.lemmas.Result.{err_from_is_err_and}
+use Rattle.mum_document.proofs.Common.{err_from_is_err_and}
 use Rattle.mum_document.proofs.First.{needed_too}
 use Rattle.mum_document.proofs.object.Object.needed_digest.Goals as goal
 

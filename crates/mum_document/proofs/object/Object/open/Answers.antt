@@ -1,6 +1,5 @@
-use Rattle.std.proofs.Common.{sym, ◌∙◌}
-use Rattle.mum_document.proofs.First.{first, reads_later}
-use Rattle.mum_document.proofs.Objects.{kind_none, kind_said}
+use Rattle.mum_document.proofs.Common.{sym, ◌∙◌}
+use Rattle.mum_document.proofs.{First.first, First.reads_later, Objects.kind_none, Objects.kind_said}
 use Rattle.mum_document.proofs.object.Object.open.Goals as goal
 
 pub returns-then-not-is_object : goal.returns-then-not-is_object

@@ -1,8 +1,4 @@
-use Rattle.std.proofs.Common.{◌≡◌, false, true, map, rules, sym, ◌∙◌, ap}
-use Rattle.std.specs.List.{list_any}
-use Rattle.std.specs.Str.{bytes_eq}
-use Rattle.serde_json.specs.View.{members_view, view}
-use Rattle.mum_document.specs.Object.{unknown_key}
+use Rattle.mum_document.proofs.Common.{◌≡◌, false, true, map, rules, sym, ◌∙◌, ap, list_any, bytes_eq, members_view, view, unknown_key}
 use Rattle.mum_document.proofs.Objects.{list_any-now, unknown_key-here, unknown_key-known, unknown_said}
 use Rattle.mum_document.proofs.object.Object.refuse_others.Goals as goal
 

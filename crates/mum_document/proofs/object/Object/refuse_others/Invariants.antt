@@ -1,6 +1,4 @@
-use Rattle.std.proofs.Common.{◌≡◌, map}
-use Rattle.serde_json.specs.View.{members_view}
-use Rattle.mum_document.specs.Object.{unknown_key}
+use Rattle.mum_document.proofs.Common.{◌≡◌, map, members_view, unknown_key}
 use Rattle.mum_document.proofs.object.Object.refuse_others.Given as goal
 
 -- the least unknown key is not passed yet

@@ -1,4 +1,4 @@
-use Rattle.std.proofs.Common.{arith}
+use Rattle.mum_exercise.proofs.Common.{arith}
 use Rattle.mum_exercise.proofs.Rounds.{talks, enters, links, mutes, listens, aims}
 use Rattle.mum_exercise.proofs.draws.Draws.act.Goals as goal
 

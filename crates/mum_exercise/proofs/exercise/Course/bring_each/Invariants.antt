@@ -1,7 +1,4 @@
-use Rattle.std.proofs.Common.{◌≡◌, take, ◌∷◌, []}
-use Rattle.std.specs.List.{flat_map}
-use Rattle.mum_record.specs.declared.step.Step.TheVariants.{Collect, Post}
-use Rattle.mum_exercise.specs.Exercise.{all_taken}
+use Rattle.mum_exercise.proofs.Common.{◌≡◌, take, ◌∷◌, [], flat_map, Collect, Post, all_taken}
 use Rattle.mum_exercise.proofs.exercise.Course.bring_each.Given as goal
 
 abbrev pub invariant-loop-session : goal.invariant-loop-session

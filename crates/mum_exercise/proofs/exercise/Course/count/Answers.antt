@@ -1,4 +1,4 @@
-use Rattle.std.proofs.lemmas.Result.{on_ok_weaker}
+use Rattle.mum_exercise.proofs.Common.{on_ok_weaker}
 use Rattle.mum_exercise.proofs.Alike.{counts_all}
 use Rattle.mum_exercise.proofs.exercise.Course.count.Goals as goal
 

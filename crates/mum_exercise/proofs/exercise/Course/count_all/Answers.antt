@@ -1,7 +1,5 @@
-use Rattle.std.proofs.Common.{ℕ, ◌+◌, ap, ◌∙◌}
-use Rattle.mum_exercise.proofs.Alike.{counts_more}
-use Rattle.mum_exercise.proofs.Turns.{round_low}
-use Rattle.mum_exercise.specs.Exercise.{CourseValue, played, progress}
+use Rattle.mum_exercise.proofs.Common.{ℕ, ◌+◌, ap, ◌∙◌, CourseValue, played, progress}
+use Rattle.mum_exercise.proofs.{Alike.counts_more, Turns.round_low}
 use Rattle.mum_exercise.proofs.exercise.Course.count_all.Goals as goal
 
 pub loop-before-init : goal.loop-before-init

@@ -1,5 +1,4 @@
-use Rattle.std.proofs.Common.{◌≡◌}
-use Rattle.mum_exercise.specs.Exercise.{IsAlike, progress}
+use Rattle.mum_exercise.proofs.Common.{◌≡◌, IsAlike, progress}
 use Rattle.mum_exercise.proofs.exercise.Course.count_all.Given as goal
 
 abbrev pub invariant-loop-before : goal.invariant-loop-before

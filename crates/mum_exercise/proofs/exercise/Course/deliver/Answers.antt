@@ -1,5 +1,4 @@
-use Rattle.std.proofs.Common.{◌∙◌}
-use Rattle.std.proofs.lemmas.Result.{on_ok_weaker}
+use Rattle.mum_exercise.proofs.Common.{◌∙◌, on_ok_weaker}
 use Rattle.mum_exercise.proofs.Takings.{delivers}
 use Rattle.mum_exercise.proofs.exercise.Course.deliver.Goals as goal
 

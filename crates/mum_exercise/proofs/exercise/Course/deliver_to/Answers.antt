@@ -1,4 +1,4 @@
-use Rattle.std.proofs.lemmas.Result.{on_ok_weaker}
+use Rattle.mum_exercise.proofs.Common.{on_ok_weaker}
 use Rattle.mum_exercise.proofs.Takings.{drains_after}
 use Rattle.mum_exercise.proofs.exercise.Course.deliver_to.Goals as goal
 

@@ -1,6 +1,4 @@
-use Rattle.std.proofs.Common.{◌∷◌, [], ◌∙◌, arith}
-use Rattle.mum_base.specs.declared.number.SessionId.{SessionId}
-use Rattle.mum_record.specs.declared.step.Step.TheVariants.{Drain}
+use Rattle.mum_exercise.proofs.Common.{◌∷◌, [], ◌∙◌, arith, SessionId, Drain}
 use Rattle.mum_exercise.proofs.Takings.{each_more}
 use Rattle.mum_exercise.proofs.exercise.Course.drain_each.Goals as goal
 

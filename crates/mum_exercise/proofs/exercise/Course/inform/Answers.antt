@@ -1,5 +1,4 @@
-use Rattle.std.proofs.Common.{◌∙◌}
-use Rattle.std.proofs.lemmas.Result.{on_ok_weaker}
+use Rattle.mum_exercise.proofs.Common.{◌∙◌, on_ok_weaker}
 use Rattle.mum_exercise.proofs.Takings.{informs}
 use Rattle.mum_exercise.proofs.exercise.Course.inform.Goals as goal
 

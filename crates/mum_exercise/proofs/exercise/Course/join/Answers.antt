@@ -1,4 +1,4 @@
-use Rattle.std.proofs.lemmas.Result.{on_ok_weaker}
+use Rattle.mum_exercise.proofs.Common.{on_ok_weaker}
 use Rattle.mum_exercise.proofs.Turns.{joins_by}
 use Rattle.mum_exercise.proofs.exercise.Course.join.Goals as goal
 

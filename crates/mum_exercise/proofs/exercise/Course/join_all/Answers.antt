@@ -1,5 +1,5 @@
+use Rattle.mum_exercise.proofs.Common.{joined}
 use Rattle.mum_exercise.proofs.Turns.{joins_more}
-use Rattle.mum_exercise.specs.Exercise.{joined}
 use Rattle.mum_exercise.proofs.exercise.Course.join_all.Goals as goal
 
 pub loop-before-init : goal.loop-before-init

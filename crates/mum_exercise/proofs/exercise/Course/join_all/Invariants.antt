@@ -1,5 +1,4 @@
-use Rattle.std.proofs.Common.{◌≡◌}
-use Rattle.mum_exercise.specs.Exercise.{joined}
+use Rattle.mum_exercise.proofs.Common.{◌≡◌, joined}
 use Rattle.mum_exercise.proofs.exercise.Course.join_all.Given as goal
 
 abbrev pub invariant-loop-before : goal.invariant-loop-before

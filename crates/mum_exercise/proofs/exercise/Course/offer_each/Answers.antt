@@ -1,5 +1,4 @@
-use Rattle.std.proofs.Common.{◌∙◌}
-use Rattle.mum_record.specs.declared.step.Step.TheVariants.{Offer}
+use Rattle.mum_exercise.proofs.Common.{◌∙◌, Offer}
 use Rattle.mum_exercise.proofs.Takings.{repeat_more}
 use Rattle.mum_exercise.proofs.exercise.Course.offer_each.Goals as goal
 

@@ -1,7 +1,4 @@
-use Rattle.std.proofs.Common.{refl}
-use Rattle.std.proofs.lemmas.Result.{on_ok_weaker}
-use Rattle.mum_exercise.specs.Acts.{aiming, channel_frame, entering, linking, listening, self_muting, target_frame, user_frame}
-use Rattle.mum_exercise.specs.declared.draws.Act.TheVariants.{Aim, Enter, Link, Listen, SetSelfMute}
+use Rattle.mum_exercise.proofs.Common.{refl, on_ok_weaker, aiming, channel_frame, entering, linking, listening, self_muting, target_frame, user_frame, Aim, Enter, Link, Listen, SetSelfMute}
 use Rattle.mum_exercise.proofs.Turns.{asks_as}
 use Rattle.mum_exercise.proofs.exercise.Course.play.Goals as goal
 

@@ -1,6 +1,5 @@
-use Rattle.std.proofs.Common.{ℕ, ◌+◌, ap, ◌∙◌}
+use Rattle.mum_exercise.proofs.Common.{ℕ, ◌+◌, ap, ◌∙◌, played, progress}
 use Rattle.mum_exercise.proofs.Turns.{plays_more, round_low}
-use Rattle.mum_exercise.specs.Exercise.{played, progress}
 use Rattle.mum_exercise.proofs.exercise.Course.play_all.Goals as goal
 
 pub loop-before-init : goal.loop-before-init

@@ -1,7 +1,4 @@
-use Rattle.std.proofs.Common.{ap, ◌∙◌}
-use Rattle.std.proofs.lemmas.Result.{on_ok_weaker}
-use Rattle.mum_record.specs.declared.step.Step.TheVariants.{End}
-use Rattle.mum_exercise.specs.Exercise.{CourseValue, exercised, taken}
+use Rattle.mum_exercise.proofs.Common.{ap, ◌∙◌, on_ok_weaker, End, CourseValue, exercised, taken}
 use Rattle.mum_exercise.proofs.exercise.Course.run.Goals as goal
 
 pub returns : goal.returns

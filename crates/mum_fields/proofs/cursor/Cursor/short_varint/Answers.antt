@@ -1,6 +1,4 @@
-use Rattle.std.proofs.Common.{◌∙◌, sym}
-use Rattle.mum_fields.specs.Cursor.{cursor_of}
-use Rattle.mum_fields.specs.Field.{skip}
+use Rattle.mum_fields.proofs.Common.{◌∙◌, sym, cursor_of, skip}
 use Rattle.mum_fields.proofs.Varints.{read-same, short-varint}
 use Rattle.mum_fields.proofs.cursor.Cursor.short_varint.Goals as goal
 

@@ -1,7 +1,4 @@
-use Rattle.std.proofs.Common.{arith}
-use Rattle.std.proofs.lemmas.Grind.{common_steps}
-use Rattle.mum_fields.specs.Written.{block_item, written}
-use Rattle.mum_fields.specs.Table.{Values, layout, parts, items}
+use Rattle.mum_fields.proofs.Common.{arith, common_steps, block_item, written, Values, layout, parts, items}
 use Rattle.mum_fields.proofs.Sizes.{size-more-values}
 use Rattle.mum_fields.proofs.length.Length.each_message.Goals as goal
 

@@ -1,6 +1,4 @@
-use Rattle.std.proofs.Common.{◌≡◌, ◌+◌, map, take}
-use Rattle.mum_fields.specs.Survey.{cut, size}
-use Rattle.mum_fields.specs.Table.{layout, parts, items, each_message}
+use Rattle.mum_fields.proofs.Common.{◌≡◌, ◌+◌, map, take, cut, size, layout, parts, items, each_message}
 use Rattle.mum_fields.proofs.length.Length.each_message.Given as goal
 
 abbrev pub invariant-loop-message : goal.invariant-loop-message

@@ -1,6 +1,4 @@
-use Rattle.std.proofs.Common.{arith}
-use Rattle.std.proofs.lemmas.Grind.{common_steps}
-use Rattle.mum_fields.specs.Written.{varint_item}
+use Rattle.mum_fields.proofs.Common.{arith, common_steps, varint_item}
 use Rattle.mum_fields.proofs.Sizes.{size-more}
 use Rattle.mum_fields.proofs.length.Length.each_number.Goals as goal
 

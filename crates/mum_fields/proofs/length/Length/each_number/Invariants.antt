@@ -1,6 +1,4 @@
-use Rattle.std.proofs.Common.{◌≡◌, ◌+◌, take}
-use Rattle.mum_fields.specs.Survey.{cut, size}
-use Rattle.mum_fields.specs.Written.{each_number}
+use Rattle.mum_fields.proofs.Common.{◌≡◌, ◌+◌, take, cut, size, each_number}
 use Rattle.mum_fields.proofs.length.Length.each_number.Given as goal
 
 abbrev pub invariant-loop-value : goal.invariant-loop-value

@@ -1,6 +1,4 @@
-use Rattle.std.proofs.Common.{◌≡◌, ◌+◌, take}
-use Rattle.mum_fields.specs.Survey.{cut, size}
-use Rattle.mum_fields.specs.Written.{each_block}
+use Rattle.mum_fields.proofs.Common.{◌≡◌, ◌+◌, take, cut, size, each_block}
 use Rattle.mum_fields.proofs.length.Length.each_text.Given as goal
 
 abbrev pub invariant-loop-text : goal.invariant-loop-text

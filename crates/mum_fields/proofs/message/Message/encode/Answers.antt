@@ -1,6 +1,4 @@
-use Rattle.std.proofs.Common.{◌++◌, ◌∙◌, ap}
-use Rattle.mum_fields.specs.Written.{written}
-use Rattle.mum_fields.specs.Table.{layout, parts, items, decoded}
+use Rattle.mum_fields.proofs.Common.{◌++◌, ◌∙◌, ap, written, layout, parts, items, decoded}
 use Rattle.mum_fields.proofs.ReadBack.{read_back, reads-as}
 use Rattle.mum_fields.proofs.message.Message.encode.Goals as goal
 

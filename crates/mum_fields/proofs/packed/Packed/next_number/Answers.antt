@@ -1,5 +1,4 @@
-use Rattle.std.proofs.lemmas.Result.{err_from_is_err_and}
-use Rattle.mum_fields.specs.Cursor.{cursor_of}
+use Rattle.mum_fields.proofs.Common.{err_from_is_err_and, cursor_of}
 use Rattle.mum_fields.proofs.Taking.{tested_empty, tested_some, packed-end, packed-item, packed-fault, packed-shorter}
 use Rattle.mum_fields.proofs.packed.Packed.next_number.Goals as goal
 

@@ -1,5 +1,4 @@
-use Rattle.std.proofs.Common.{sym, ◌∙◌}
-use Rattle.mum_fields.specs.Field.{entry_of}
+use Rattle.mum_fields.proofs.Common.{sym, ◌∙◌, entry_of}
 use Rattle.mum_fields.proofs.Outlines.{grows-all, grows-one}
 use Rattle.mum_fields.proofs.pass.FieldShapeRow.after.Goals as goal
 

@@ -1,9 +1,5 @@
-use Rattle.std.proofs.Common.{◌≡◌, sym, ap, ◌∙◌}
-use Rattle.std.proofs.lemmas.Result.{err_from_is_err_and}
-use Rattle.mum_fields.specs.Field.{entry_of}
-use Rattle.mum_fields.specs.Survey.{Single, Many, slot_of, is_sound, number_of}
-use Rattle.mum_fields.proofs.Kept.{inside-room}
-use Rattle.mum_fields.proofs.Outlines.{grows-as, grows-block, grows-block_fault, grows-no_block}
+use Rattle.mum_fields.proofs.Common.{◌≡◌, sym, ap, ◌∙◌, err_from_is_err_and, entry_of, Single, Many, slot_of, is_sound, number_of}
+use Rattle.mum_fields.proofs.{Kept.inside-room, Outlines.grows-as, Outlines.grows-block, Outlines.grows-block_fault, Outlines.grows-no_block}
 use Rattle.mum_fields.proofs.pass.ShapeRow.after.Goals as goal
 
 pub outline_block-requires-clause-room : goal.outline_block-requires-clause-room

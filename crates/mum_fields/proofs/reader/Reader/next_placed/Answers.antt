@@ -1,9 +1,5 @@
-use Rattle.std.proofs.lemmas.Result.{err_from_is_err_and}
-use Rattle.mum_fields.specs.Cursor.{cursor_of}
-use Rattle.mum_fields.specs.Field.{entry_of}
-use Rattle.mum_fields.proofs.Taking.{tested_empty, tested_some, fields-end, fields-item, fields-fault, fields-shorter}
-use Rattle.std.proofs.Common.{Some, None}
-use Rattle.mum_fields.proofs.Stops.{end-no_fault, field-no_fault, fault-is_fault}
+use Rattle.mum_fields.proofs.Common.{err_from_is_err_and, cursor_of, entry_of, Some, None}
+use Rattle.mum_fields.proofs.{Taking.tested_empty, Taking.tested_some, Taking.fields-end, Taking.fields-item, Taking.fields-fault, Taking.fields-shorter, Stops.end-no_fault, Stops.field-no_fault, Stops.fault-is_fault}
 use Rattle.mum_fields.proofs.reader.Reader.next_placed.Goals as goal
 
 pub returns-then-is_empty-clause-takes : goal.returns-then-is_empty-clause-takes

@@ -1,9 +1,6 @@
-use Rattle.std.proofs.Common.{◌≡◌, sym, ap, ◌∙◌}
-use Rattle.mum_fields.specs.Field.{entry_of}
-use Rattle.mum_fields.specs.Survey.{one_size}
-use Rattle.mum_fields.proofs.Outlines.{all-packed, all-one}
+use Rattle.mum_fields.proofs.Common.{◌≡◌, sym, ap, ◌∙◌, entry_of, one_size}
+use Rattle.mum_fields.proofs.{Outlines.all-packed, Outlines.all-one, shape.Kind.all_size.Goals.in-Number+in_default-value, shape.Kind.all_size.Goals.in_default}
 use Rattle.mum_fields.proofs.shape.Kind.all_size.Goals as goal
-use Rattle.mum_fields.proofs.shape.Kind.all_size.Goals.{in-Number+in_default-value, in_default}
 
 pub returns-in-Block : goal.returns-in-Block
 returns-in-Block c =

@@ -1,6 +1,4 @@
-use Rattle.std.proofs.Common.{◌≡◌, ◌∷◌, [], ap, ◌∙◌}
-use Rattle.mum_fields.specs.Survey.{size}
-use Rattle.mum_fields.specs.Written.{varint_item}
+use Rattle.mum_fields.proofs.Common.{◌≡◌, ◌∷◌, [], ap, ◌∙◌, size, varint_item}
 use Rattle.mum_fields.proofs.Outlines.{one-number, one-no_number, one-text, one-no_text, one-raw, one-no_raw}
 use Rattle.mum_fields.proofs.shape.Kind.one_size.Goals as goal
 

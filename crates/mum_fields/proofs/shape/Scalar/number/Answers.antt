@@ -1,5 +1,4 @@
-use Rattle.std.proofs.Common.{refl}
-use Rattle.mum_fields.specs.declared.shape.Scalar.TheVariants.{Unsigned32, Unsigned64, Signed32, Truth}
+use Rattle.mum_fields.proofs.Common.{refl, Unsigned32, Unsigned64, Signed32, Truth}
 use Rattle.mum_fields.proofs.Outlines.{number-is}
 use Rattle.mum_fields.proofs.shape.Scalar.number.Goals as goal
 

@@ -1,9 +1,4 @@
-use Rattle.std.proofs.Common.{◌≡◌, ◌++◌, ◌<◌, length, ◌∙◌, ap, arith}
-use Rattle.std.proofs.lemmas.Grind.{common_steps}
-use Rattle.std.proofs.lemmas.Result.{err_from_is_err_and}
-use Rattle.mum_fields.specs.Written.{written}
-use Rattle.mum_fields.specs.Table.{layout, parts, items, Values}
-use Rattle.mum_fields.specs.Typed.{AreTyped, IsBytes}
+use Rattle.mum_fields.proofs.Common.{◌≡◌, ◌++◌, ◌<◌, length, ◌∙◌, ap, arith, common_steps, err_from_is_err_and, written, layout, parts, items, Values, AreTyped, IsBytes}
 use Rattle.mum_fields.proofs.Puts.{All-next}
 use Rattle.mum_fields.proofs.writer.Writer.put_each_message.Goals as goal
 

@@ -1,8 +1,4 @@
-use Rattle.std.proofs.Common.{◌≡◌, ◌++◌, take, map}
-use Rattle.std.specs.List.{All}
-use Rattle.mum_fields.specs.Written.{written}
-use Rattle.mum_fields.specs.Typed.{IsBytes, AreTyped}
-use Rattle.mum_fields.specs.Table.{layout, parts, items, each_message}
+use Rattle.mum_fields.proofs.Common.{◌≡◌, ◌++◌, take, map, All, written, IsBytes, AreTyped, layout, parts, items, each_message}
 use Rattle.mum_fields.proofs.writer.Writer.put_each_message.Given as goal
 
 abbrev pub invariant-loop-message : goal.invariant-loop-message

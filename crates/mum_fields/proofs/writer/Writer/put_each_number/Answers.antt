@@ -1,4 +1,4 @@
-use Rattle.std.proofs.lemmas.Result.{err_from_is_err_and}
+use Rattle.mum_fields.proofs.Common.{err_from_is_err_and}
 use Rattle.mum_fields.proofs.writer.Writer.put_each_number.Goals as goal
 
 pub returns-in_err-put_varint-clause-err : goal.returns-in_err-put_varint-clause-err

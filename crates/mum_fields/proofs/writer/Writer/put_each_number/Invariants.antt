@@ -1,7 +1,4 @@
-use Rattle.std.proofs.Common.{◌≡◌, ◌++◌, take}
-use Rattle.std.specs.List.{All}
-use Rattle.mum_fields.specs.Written.{each_number, written}
-use Rattle.mum_fields.specs.Typed.{IsScalar}
+use Rattle.mum_fields.proofs.Common.{◌≡◌, ◌++◌, take, All, each_number, written, IsScalar}
 use Rattle.mum_fields.proofs.writer.Writer.put_each_number.Given as goal
 
 abbrev pub invariant-loop-value : goal.invariant-loop-value

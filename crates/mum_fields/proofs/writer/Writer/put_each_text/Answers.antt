@@ -1,10 +1,4 @@
-use Rattle.std.proofs.Common.{◌<◌, ◌^◌, length, arith}
-use Rattle.std.specs.Str.{IsUtf8}
-use Rattle.std.proofs.lemmas.Result.{err_from_is_err_and}
-use Rattle.std.proofs.lemmas.Grind.{common_steps}
-use Rattle.std.proofs.lemmas.List.{take_all}
-use Rattle.std.proofs.lemmas.List.Elements.{All-more}
-use Rattle.mum_fields.specs.Typed.{IsText}
+use Rattle.mum_fields.proofs.Common.{◌<◌, ◌^◌, length, arith, IsUtf8, err_from_is_err_and, common_steps, take_all, All-more, IsText}
 use Rattle.mum_fields.proofs.writer.Writer.put_each_text.Goals as goal
 
 pub loop-text-preserved : goal.loop-text-preserved

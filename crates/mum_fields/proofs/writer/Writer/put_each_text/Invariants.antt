@@ -1,7 +1,4 @@
-use Rattle.std.proofs.Common.{◌≡◌, ◌++◌, take}
-use Rattle.std.specs.List.{All}
-use Rattle.mum_fields.specs.Written.{each_block, written}
-use Rattle.mum_fields.specs.Typed.{IsText}
+use Rattle.mum_fields.proofs.Common.{◌≡◌, ◌++◌, take, All, each_block, written, IsText}
 use Rattle.mum_fields.proofs.writer.Writer.put_each_text.Given as goal
 
 abbrev pub invariant-loop-text : goal.invariant-loop-text

@@ -1,15 +1,5 @@
-use Rattle.std.proofs.Common.{◌≡◌, Ok, Err, Option, Result, ℕ, ◌+◌, ◌≤◌, List, ◌++◌, drop, length, ap, ◌∙◌, subst, arith}
-use Rattle.std.proofs.lemmas.Result.{err_from_is_err_and}
-use Rattle.std.proofs.lemmas.List.{length-append}
-use Rattle.mum_frame.specs.declared.frame.TheConstants.{HEADER_LENGTH}
-use Rattle.mum_frame.specs.declared.frame.Frame.{Frame}
-use Rattle.mum_frame.specs.declared.frame.FrameView.{FrameView}
-use Rattle.mum_frame.specs.declared.framer.FrameFault.{FrameFault}
-use Rattle.mum_frame.specs.declared.framer.FrameFault.TheVariants.{FrameTooLong}
-use Rattle.mum_frame.specs.First.{viewed}
-use Rattle.mum_frame.specs.Frame.{frame_spelling, IsFrame, HasNoFrame, TooLong, named_length}
-use Rattle.mum_frame.proofs.Headers.{HasNoFrame-above_limit, length-spelling_of}
-use Rattle.mum_frame.proofs.Replies.{NextGives-out_of_memory, none_from, none_to, too_long_from, too_long_to}
+use Rattle.mum_frame.proofs.Common.{◌≡◌, Ok, Err, Option, Result, ℕ, ◌+◌, ◌≤◌, List, ◌++◌, drop, length, ap, ◌∙◌, subst, arith, err_from_is_err_and, length-append, HEADER_LENGTH, Frame, FrameView, FrameFault, FrameTooLong, viewed, frame_spelling, IsFrame, HasNoFrame, TooLong, named_length}
+use Rattle.mum_frame.proofs.{Headers.HasNoFrame-above_limit, Headers.length-spelling_of, Replies.NextGives-out_of_memory, Replies.none_from, Replies.none_to, Replies.too_long_from, Replies.too_long_to}
 use Rattle.mum_frame.proofs.framer.Framer.next.Goals as goal
 
 -- the bytes begin with the frame of this view

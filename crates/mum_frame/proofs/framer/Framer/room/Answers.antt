@@ -1,5 +1,4 @@
-use Rattle.std.proofs.Common.{ap, length, length-drop, arith}
-use Rattle.mum_frame.specs.Stream.{FramerState}
+use Rattle.mum_frame.proofs.Common.{ap, length, length-drop, arith, FramerState}
 use Rattle.mum_frame.proofs.framer.Framer.room.Goals as goal
 
 pub returns-clause-limit : goal.returns-clause-limit

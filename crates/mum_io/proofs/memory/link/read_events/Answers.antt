@@ -1,7 +1,5 @@
-use Rattle.std.proofs.Common.{rules, ◌≡◌, sym, ◌∙◌, take, arith}
-use Rattle.mum_io.specs.MemLink.{bytes_of, with_rest}
-use Rattle.mum_io.proofs.MemLinkLemmas.{bytes_of-same, bytes_of-taken}
-use Rattle.mum_io.proofs.MemoryLemmas.{min-positive}
+use Rattle.mum_io.proofs.Common.{rules, ◌≡◌, sym, ◌∙◌, take, arith, bytes_of, with_rest}
+use Rattle.mum_io.proofs.{MemLinkLemmas.bytes_of-same, MemLinkLemmas.bytes_of-taken, MemoryLemmas.min-positive}
 use Rattle.mum_io.proofs.memory.link.read_events.Goals as goal
 
 pub returns-in_default-clause-bytes : goal.returns-in_default-clause-bytes

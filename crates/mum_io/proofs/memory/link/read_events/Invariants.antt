@@ -1,6 +1,4 @@
-use Rattle.std.proofs.Common.{◌≡◌}
-use Rattle.std.specs.VecDeque.{deque_len}
-use Rattle.mum_io.specs.MemLink.{due, with_rest}
+use Rattle.mum_io.proofs.Common.{◌≡◌, deque_len, due, with_rest}
 use Rattle.mum_io.proofs.memory.link.read_events.Given as goal
 
 abbrev pub invariant-loop-events : goal.invariant-loop-events

@@ -1,6 +1,4 @@
-use Rattle.std.proofs.Common.{Some, None, ap, refl, subst}
-use Rattle.mum_keeper.specs.Bell.{BellFacts, TakesRing, ring_of}
-use Rattle.mum_keeper.specs.Store.{Heeds, StoreFacts}
+use Rattle.mum_keeper.proofs.Common.{Some, None, ap, refl, subst, BellFacts, TakesRing, ring_of, Heeds, StoreFacts}
 use Rattle.mum_keeper.proofs.store.Store.hear.Goals as goal
 
 pub returns-in-Some : goal.returns-in-Some

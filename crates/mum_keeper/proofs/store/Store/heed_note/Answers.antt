@@ -1,5 +1,4 @@
-use Rattle.std.proofs.Common.{subst}
-use Rattle.mum_keeper.specs.Store.{Observes, StoreFacts}
+use Rattle.mum_keeper.proofs.Common.{subst, Observes, StoreFacts}
 use Rattle.mum_keeper.proofs.store.Store.heed_note.Goals as goal
 
 pub returns : goal.returns

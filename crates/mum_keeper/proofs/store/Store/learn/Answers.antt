@@ -1,5 +1,4 @@
-use Rattle.std.proofs.Common.{◌∙◌, ap}
-use Rattle.mum_published.specs.Facts.{PassFacts}
+use Rattle.mum_keeper.proofs.Common.{◌∙◌, ap, PassFacts}
 use Rattle.mum_keeper.proofs.Seeing.{learnt_seen}
 use Rattle.mum_keeper.proofs.store.Store.learn.Goals as goal
 

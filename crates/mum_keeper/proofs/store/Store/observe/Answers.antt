@@ -1,10 +1,5 @@
-use Rattle.std.proofs.Common.{◌∙◌, ap, subst, sym}
-use Rattle.mum_published.specs.Facts.{PassFacts}
-use Rattle.mum_keeper.proofs.Observing.{observes, observes_nothing}
-use Rattle.mum_keeper.proofs.Seeing.{compared_seen, looked_seen}
-use Rattle.mum_keeper.specs.Look.{AreSeenAt}
-use Rattle.mum_keeper.specs.Mirror.{MirrorFacts}
-use Rattle.mum_keeper.specs.Store.{Observes, StoreFacts}
+use Rattle.mum_keeper.proofs.Common.{◌∙◌, ap, subst, sym, PassFacts, AreSeenAt, MirrorFacts, Observes, StoreFacts}
+use Rattle.mum_keeper.proofs.{Observing.observes, Observing.observes_nothing, Seeing.compared_seen, Seeing.looked_seen}
 use Rattle.mum_keeper.proofs.store.Store.observe.Goals as goal
 
 pub compare-end-requires : goal.compare-end-requires

@@ -1,9 +1,5 @@
-use Rattle.std.proofs.Common.{ap, subst}
-use Rattle.mum_kept.specs.Kept.{kept}
-use Rattle.mum_kept.specs.declared.rows.KeptRows.{KeptRows}
+use Rattle.mum_keeper.proofs.Common.{ap, subst, kept, KeptRows, Compares, MirrorFacts, StoreFacts}
 use Rattle.mum_keeper.proofs.Observing.{starves}
-use Rattle.mum_keeper.specs.Mirror.{Compares, MirrorFacts}
-use Rattle.mum_keeper.specs.Store.{StoreFacts}
 use Rattle.mum_keeper.proofs.store.Store.settle.Goals as goal
 
 pub compare-requires : goal.compare-requires

@@ -1,9 +1,6 @@
-use Rattle.std.proofs.Common.{◌≡◌, ◌∙◌, Bool, IsTrue, ap, subst, sym}
-use Rattle.std.specs.Prelude.{◌↔◌}
-use Rattle.mum_crew.specs.declared.role.Turn.{Turn}
-use Rattle.mum_crew.specs.declared.role.Turn.TheVariants as turns
+use Rattle.mum_keeper.proofs.Common.{◌≡◌, ◌∙◌, Bool, IsTrue, ap, subst, sym, ◌↔◌, Turn, turn_of}
 use Rattle.mum_keeper.proofs.Turning.{is_done}
-use Rattle.mum_keeper.specs.Store.{turn_of}
+use Rattle.mum_crew.specs.declared.role.Turn.TheVariants as turns
 use Rattle.mum_keeper.proofs.store.Store.turn.Goals as goal
 
 pub returns-clause-turned : goal.returns-clause-turned

@@ -1,7 +1,5 @@
-use Rattle.std.proofs.Common.{◌∙◌, ap, sym}
-use Rattle.mum_kept.specs.declared.rows.KeptRows.{KeptRows}
+use Rattle.mum_keeper.proofs.Common.{◌∙◌, ap, sym, KeptRows, made}
 use Rattle.mum_keeper.proofs.Ordering.{all_more}
-use Rattle.mum_keeper.specs.Changes.{made}
 use Rattle.mum_keeper.proofs.tables.Tables.changed.Goals as goal
 
 pub loop-change-preserved : goal.loop-change-preserved

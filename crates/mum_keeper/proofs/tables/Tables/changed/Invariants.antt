@@ -1,5 +1,4 @@
-use Rattle.std.proofs.Common.{◌≡◌, take}
-use Rattle.mum_keeper.specs.Changes.{all_made}
+use Rattle.mum_keeper.proofs.Common.{◌≡◌, take, all_made}
 use Rattle.mum_keeper.proofs.tables.Tables.changed.Given as goal
 
 abbrev pub invariant-loop-change : goal.invariant-loop-change

@@ -1,9 +1,5 @@
-use Rattle.std.proofs.Common.{List, subst, sym}
-use Rattle.mum_tree.specs.State.{Pair}
-use Rattle.mum_kept.specs.declared.rows.KeptChannel.{KeptChannel}
-use Rattle.mum_kept.specs.declared.rows.KeptRows.{KeptRows}
+use Rattle.mum_keeper.proofs.Common.{List, subst, sym, Pair, KeptChannel, KeptRows, AreInOrder, without_link}
 use Rattle.mum_keeper.proofs.Ordering.{linked_in_order, made_in_order, put_in_order}
-use Rattle.mum_keeper.specs.Changes.{AreInOrder, without_link}
 use Rattle.mum_keeper.specs.declared.change.Change.TheVariants as changes
 use Rattle.mum_keeper.proofs.tables.Tables.make.Goals as goal
 

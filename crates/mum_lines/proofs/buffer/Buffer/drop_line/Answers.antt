@@ -1,4 +1,4 @@
-use Rattle.std.proofs.Common.{ℕ, ◌≡◌, ◌+◌, slice_range, ap, ◌∙◌, arith, length-take, length-drop}
+use Rattle.mum_lines.proofs.Common.{ℕ, ◌≡◌, ◌+◌, slice_range, ap, ◌∙◌, arith, length-take, length-drop}
 use Rattle.mum_lines.proofs.Windows.{later}
 use Rattle.mum_lines.proofs.buffer.Buffer.drop_line.Goals as goal
 

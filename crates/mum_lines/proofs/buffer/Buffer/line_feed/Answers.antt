@@ -1,6 +1,4 @@
-use Rattle.std.proofs.Common.{ℕ, ◌≤◌, List, length, subst, sym, arith}
-use Rattle.mum_record.specs.Lines.{is_line_feed}
-use Rattle.mum_lines.specs.Seeking.{kept_in}
+use Rattle.mum_lines.proofs.Common.{ℕ, ◌≤◌, List, length, subst, sym, arith, is_line_feed, kept_in}
 use Rattle.mum_lines.proofs.LineFeeds.{first-within}
 use Rattle.mum_lines.proofs.buffer.Buffer.line_feed.Goals as goal
 

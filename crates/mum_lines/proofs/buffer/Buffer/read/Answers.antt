@@ -1,9 +1,5 @@
-use Rattle.std.proofs.Common.{ℕ, ◌≡◌, ◌+◌, ◌≤◌, ◌++◌, ◌∙◌, List, take, drop, slice_range, sym, ap, arith, length-drop, subst}
-use Rattle.std.proofs.lemmas.List.{length-take-le}
-use Rattle.mum_record.specs.Lines.{is_line_feed}
-use Rattle.mum_lines.specs.Lines.{line_length}
-use Rattle.mum_lines.proofs.LineFeeds.{first-longer}
-use Rattle.mum_lines.proofs.Windows.{grown, same}
+use Rattle.mum_lines.proofs.Common.{ℕ, ◌≡◌, ◌+◌, ◌≤◌, ◌++◌, ◌∙◌, List, take, drop, slice_range, sym, ap, arith, length-drop, subst, length-take-le, is_line_feed, line_length}
+use Rattle.mum_lines.proofs.{LineFeeds.first-longer, Windows.grown, Windows.same}
 use Rattle.mum_lines.proofs.buffer.Buffer.read.Goals as goal
 
 -- what is kept after more bytes is what was kept and these

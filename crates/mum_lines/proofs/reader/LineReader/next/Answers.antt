@@ -1,9 +1,4 @@
-use Rattle.std.proofs.Common.{◌≡◌, ◌+◌, ◌-◌, ◌≤◌, ◌∙◌, ℕ, length, ap, refl, sym, arith, length-take, length-drop}
-use Rattle.std.specs.Vec.{vec_len}
-use Rattle.mum_record.specs.declared.split.TheConstants.{LINE_LIMIT}
-use Rattle.mum_lines.specs.Lines.{ReaderState}
-use Rattle.mum_lines.specs.Seeking.{kept_in}
-use Rattle.mum_lines.specs.declared.buffer.Buffer.{Buffer}
+use Rattle.mum_lines.proofs.Common.{◌≡◌, ◌+◌, ◌-◌, ◌≤◌, ◌∙◌, ℕ, length, ap, refl, sym, arith, length-take, length-drop, vec_len, LINE_LIMIT, ReaderState, kept_in, Buffer}
 use Rattle.mum_lines.proofs.Readers.{gives_line}
 use Rattle.mum_lines.proofs.reader.LineReader.next.Goals as goal
 

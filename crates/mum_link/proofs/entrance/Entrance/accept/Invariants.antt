@@ -1,4 +1,4 @@
-use Rattle.std.proofs.Common.{◌≡◌}
+use Rattle.mum_link.proofs.Common.{◌≡◌}
 use Rattle.mum_link.proofs.entrance.Entrance.accept.Given as goal
 
 abbrev pub invariant-loop : goal.invariant-loop

@@ -1,5 +1,4 @@
-use Rattle.std.proofs.Common.{◌≡◌, ap, subst, ◌∙◌, IfSome}
-use Rattle.std.specs.Net.Addr.{ipv6_octets}
+use Rattle.mum_link.proofs.Common.{◌≡◌, ap, subst, ◌∙◌, IfSome, ipv6_octets}
 use Rattle.mum_link.proofs.Reading.{comes_behind, named_address}
 use Rattle.mum_link.proofs.entrance.Entrance.admit_waiting.Goals as goal
 

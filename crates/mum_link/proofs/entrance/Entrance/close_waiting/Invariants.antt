@@ -1,4 +1,4 @@
-use Rattle.std.proofs.Common.{◌≡◌, vec_len}
+use Rattle.mum_link.proofs.Common.{◌≡◌, vec_len}
 use Rattle.mum_link.proofs.entrance.Entrance.close_waiting.Given as goal
 
 abbrev pub invariant-loop-waiting : goal.invariant-loop-waiting

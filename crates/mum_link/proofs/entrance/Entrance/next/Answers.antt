@@ -1,7 +1,5 @@
-use Rattle.std.proofs.Common.{◌≡◌, true, false, is_some, rules, sym, subst, ◌∙◌, ap}
-use Rattle.mum_link.specs.Comings.{LetsIn}
-use Rattle.mum_link.proofs.Coming.{comes_in, stays_out}
-use Rattle.mum_link.proofs.entrance.Entrance.next.Goals.{then-is_some, else-is_some}
+use Rattle.mum_link.proofs.Common.{◌≡◌, true, false, is_some, rules, sym, subst, ◌∙◌, ap, LetsIn}
+use Rattle.mum_link.proofs.{Coming.comes_in, Coming.stays_out, entrance.Entrance.next.Goals.then-is_some, entrance.Entrance.next.Goals.else-is_some}
 use Rattle.mum_link.proofs.entrance.Entrance.next.Goals as goal
 
 pub returns-then-not-have_arrivals_room-clause-rate : goal.returns-then-not-have_arrivals_room-clause-rate

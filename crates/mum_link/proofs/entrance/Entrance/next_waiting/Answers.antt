@@ -1,7 +1,4 @@
-use Rattle.std.proofs.Common.{ap, refl}
-use Rattle.std.specs.Option.{option_map}
-use Rattle.std.specs.Net.Addr.{ipv6_octets}
-use Rattle.mum_address.specs.Header.{plain}
+use Rattle.mum_link.proofs.Common.{ap, refl, option_map, ipv6_octets, plain}
 use Rattle.mum_link.proofs.entrance.Entrance.next_waiting.Goals as goal
 
 pub admit_waiting-requires : goal.admit_waiting-requires

@@ -1,4 +1,4 @@
-use Rattle.std.proofs.Common.{rules}
+use Rattle.mum_link.proofs.Common.{rules}
 use Rattle.mum_link.proofs.ReadingOn.{reads_both, reads_none}
 use Rattle.mum_link.proofs.waiting.Waiting.read_pieces.Goals as goal
 

@@ -1,5 +1,4 @@
-use Rattle.std.proofs.Common.{◌≡◌}
-use Rattle.mum_link.specs.Reads.{ReadsOn}
+use Rattle.mum_link.proofs.Common.{◌≡◌, ReadsOn}
 use Rattle.mum_link.proofs.waiting.Waiting.read_pieces.Given as goal
 
 abbrev pub invariant-loop : goal.invariant-loop

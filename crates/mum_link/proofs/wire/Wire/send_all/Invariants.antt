@@ -1,6 +1,4 @@
-use Rattle.std.proofs.Common.{◌≡◌, length}
-use Rattle.std.specs.Io.KnownBytes.{Keeps}
-use Rattle.mum_link.specs.Wires.{taken}
+use Rattle.mum_link.proofs.Common.{◌≡◌, length, Keeps, taken}
 use Rattle.mum_link.proofs.wire.Wire.send_all.Given as goal
 
 abbrev pub invariant-loop-self : goal.invariant-loop-self

@@ -1,7 +1,4 @@
-use Rattle.std.proofs.Common.{◌≡◌}
-use Rattle.std.specs.Io.KnownBytes.{Keeps}
-use Rattle.mum_link.specs.Faults.{IsBroken, Stays}
-use Rattle.mum_link.specs.Wires.{taken}
+use Rattle.mum_link.proofs.Common.{◌≡◌, Keeps, IsBroken, Stays, taken}
 use Rattle.mum_link.proofs.wire.Wire.send_kept.Given as goal
 
 abbrev pub invariant-loop : goal.invariant-loop

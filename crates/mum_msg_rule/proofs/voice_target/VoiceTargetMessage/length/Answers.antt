@@ -1,7 +1,4 @@
-use Rattle.std.proofs.Common.{◌∙◌}
-use Rattle.mum_fields.specs.Table.{layout, parts}
-use Rattle.mum_fields.proofs.Sizes.{fields-counted}
-use Rattle.mum_msg_rule.specs.Messages.{voice_target}
+use Rattle.mum_msg_rule.proofs.Common.{◌∙◌, layout, parts, fields-counted, voice_target}
 use Rattle.mum_msg_rule.proofs.voice_target.VoiceTargetMessage.length.Goals as goal
 
 pub returns : goal.returns

@@ -1,7 +1,4 @@
-use Rattle.std.proofs.Common.{◌∙◌}
-use Rattle.mum_fields.specs.Table.{layout, parts}
-use Rattle.mum_fields.proofs.Sizes.{fields-counted}
-use Rattle.mum_msg_state.specs.Messages.{codec_version}
+use Rattle.mum_msg_state.proofs.Common.{◌∙◌, layout, parts, fields-counted, codec_version}
 use Rattle.mum_msg_state.proofs.codec_version.CodecVersionMessage.length.Goals as goal
 
 pub returns : goal.returns

@@ -1,7 +1,4 @@
-use Rattle.std.proofs.Common.{◌∙◌}
-use Rattle.mum_fields.specs.Table.{layout, parts}
-use Rattle.mum_fields.proofs.Sizes.{fields-counted}
-use Rattle.mum_msg_state.specs.Messages.{ping}
+use Rattle.mum_msg_state.proofs.Common.{◌∙◌, layout, parts, fields-counted, ping}
 use Rattle.mum_msg_state.proofs.ping.PingMessage.length.Goals as goal
 
 pub returns : goal.returns

@@ -1,7 +1,4 @@
-use Rattle.std.proofs.Common.{◌∙◌}
-use Rattle.mum_fields.specs.Table.{layout, parts}
-use Rattle.mum_fields.proofs.Sizes.{fields-counted}
-use Rattle.mum_msg_state.specs.Messages.{server_sync}
+use Rattle.mum_msg_state.proofs.Common.{◌∙◌, layout, parts, fields-counted, server_sync}
 use Rattle.mum_msg_state.proofs.server_sync.ServerSyncMessage.length.Goals as goal
 
 pub returns : goal.returns

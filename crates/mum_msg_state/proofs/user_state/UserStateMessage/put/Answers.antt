@@ -1,6 +1,4 @@
-use Rattle.mum_fields.specs.Table.{layout, parts}
-use Rattle.mum_fields.proofs.Puts.{fields-added}
-use Rattle.mum_msg_state.specs.Messages.{user_state}
+use Rattle.mum_msg_state.proofs.Common.{layout, parts, fields-added, user_state}
 use Rattle.mum_msg_state.proofs.user_state.UserStateMessage.put.Goals as goal
 
 pub returns-clause-ok : goal.returns-clause-ok

@@ -1,7 +1,4 @@
-use Rattle.std.proofs.Common.{◌∙◌, List, ℕ, ap, sym, subst}
-use Rattle.std.specs.List.Sorted.{IsSorted}
-use Rattle.std.specs.Ordering.{nat_cmp}
-use Rattle.mum_notify.specs.Sorted.{lists}
+use Rattle.mum_notify.proofs.Common.{◌∙◌, List, ℕ, ap, sym, subst, IsSorted, nat_cmp, lists}
 use Rattle.mum_notify.proofs.Reached.{found_by_halving}
 use Rattle.mum_notify.proofs.sorted.Sorted.has.Goals as goal
 

@@ -1,6 +1,4 @@
-use Rattle.std.proofs.Common.{◌∙◌, ◌==◌, List, ℕ, ap, sym}
-use Rattle.std.proofs.lemmas.List.Sorted.{list_any-IsPermutation}
-use Rattle.mum_notify.specs.Sorted.{lists}
+use Rattle.mum_notify.proofs.Common.{◌∙◌, ◌==◌, List, ℕ, ap, sym, list_any-IsPermutation, lists}
 use Rattle.mum_notify.proofs.sorted.Sorted.of.Goals as goal
 
 pub returns : goal.returns

@@ -1,4 +1,4 @@
-use Rattle.std.proofs.Common.{◌≡◌, ◌++◌, take}
+use Rattle.mum_notify.proofs.Common.{◌≡◌, ◌++◌, take}
 use Rattle.mum_notify.proofs.waiting.NoticeQueue.put_all.Given as goal
 
 abbrev pub invariant-loop-i : goal.invariant-loop-i

@@ -1,6 +1,4 @@
-use Rattle.std.proofs.Common.{◌≡◌, ◌++◌, map}
-use Rattle.std.specs.VecDeque.Iter.{deque_iter_rest}
-use Rattle.mum_notify.specs.declared.notice.Notice.{Notice}
+use Rattle.mum_notify.proofs.Common.{◌≡◌, ◌++◌, map, deque_iter_rest, Notice}
 use Rattle.mum_notify.proofs.waiting.NoticeQueue.recipients.Given as goal
 
 -- those so far and those to come are all of them

@@ -1,5 +1,4 @@
-use Rattle.std.proofs.Common.{◌∙◌, ◌-◌, List, ap, length, take}
-use Rattle.mum_notify.specs.declared.notice.Notice.{Notice}
+use Rattle.mum_notify.proofs.Common.{◌∙◌, ◌-◌, List, ap, length, take, Notice}
 use Rattle.mum_notify.proofs.Fewer.{take-fewer}
 use Rattle.mum_notify.proofs.waiting.NoticeQueue.take_back.Goals as goal
 

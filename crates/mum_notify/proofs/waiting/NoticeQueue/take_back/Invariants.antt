@@ -1,4 +1,4 @@
-use Rattle.std.proofs.Common.{◌≡◌, ◌-◌, length, take}
+use Rattle.mum_notify.proofs.Common.{◌≡◌, ◌-◌, length, take}
 use Rattle.mum_notify.proofs.waiting.NoticeQueue.take_back.Given as goal
 
 abbrev pub invariant-loop-taken : goal.invariant-loop-taken

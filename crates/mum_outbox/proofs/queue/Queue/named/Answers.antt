@@ -1,4 +1,4 @@
-use Rattle.std.proofs.Common.{rules, [], refl}
+use Rattle.mum_outbox.proofs.Common.{rules, [], refl}
 use Rattle.mum_outbox.proofs.queue.Queue.named.Goals as goal
 
 pub ruled-requires-clause-rule : goal.ruled-requires-clause-rule

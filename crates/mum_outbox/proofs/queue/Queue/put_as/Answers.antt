@@ -1,6 +1,5 @@
-use Rattle.std.proofs.Common.{rules}
-use Rattle.mum_outbox.proofs.Moments.{learns}
-use Rattle.mum_outbox.proofs.Offers.{offers}
+use Rattle.mum_outbox.proofs.Common.{rules}
+use Rattle.mum_outbox.proofs.{Moments.learns, Offers.offers}
 use Rattle.mum_outbox.proofs.queue.Queue.put_as.Goals as goal
 
 pub push_as-requires-clause-rule : goal.push_as-requires-clause-rule

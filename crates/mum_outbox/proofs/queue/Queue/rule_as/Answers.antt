@@ -1,6 +1,5 @@
-use Rattle.mum_outbox.specs.Rule.{IsBefore}
-use Rattle.mum_outbox.proofs.Hands.{pairs_front}
-use Rattle.mum_outbox.proofs.Moments.{learns}
+use Rattle.mum_outbox.proofs.Common.{IsBefore}
+use Rattle.mum_outbox.proofs.{Hands.pairs_front, Moments.learns}
 use Rattle.mum_outbox.proofs.queue.Queue.rule_as.Goals as goal
 
 pub learn_as-requires-clause-rule : goal.learn_as-requires-clause-rule

@@ -1,4 +1,4 @@
-use Rattle.std.proofs.Common.{rules}
+use Rattle.mum_outbox.proofs.Common.{rules}
 use Rattle.mum_outbox.proofs.Forks.{gives_half}
 use Rattle.mum_outbox.proofs.queue.Queue.share.Goals as goal
 

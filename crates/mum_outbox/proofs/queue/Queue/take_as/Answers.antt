@@ -1,6 +1,5 @@
-use Rattle.std.proofs.Common.{not, ap, ◌∙◌}
-use Rattle.mum_outbox.proofs.Moments.{learns, taken_so}
-use Rattle.mum_outbox.proofs.Takes.{takes}
+use Rattle.mum_outbox.proofs.Common.{not, ap, ◌∙◌}
+use Rattle.mum_outbox.proofs.{Moments.learns, Moments.taken_so, Takes.takes}
 use Rattle.mum_outbox.proofs.queue.Queue.take_as.Goals as goal
 
 pub pop_as-taken-requires-clause-rule : goal.pop_as-taken-requires-clause-rule

@@ -1,4 +1,4 @@
-use Rattle.std.proofs.Common.{◌<◌, length, arith}
+use Rattle.mum_owner.proofs.Common.{◌<◌, length, arith}
 use Rattle.mum_owner.proofs.Telling.{same_length}
 use Rattle.mum_owner.proofs.bells.Bells.tell_where.Goals as goal
 

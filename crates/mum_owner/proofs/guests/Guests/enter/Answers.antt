@@ -1,9 +1,4 @@
-use Rattle.std.proofs.Common.{◌+◌, List, subst, sym}
-use Rattle.std.specs.Prelude.{IsTrue}
-use Rattle.std.specs.Vec.{vec_capacity}
-use Rattle.mum_owner.specs.Facts.{GuestsFacts}
-use Rattle.mum_owner.specs.Guests.{AreKept, has_room}
-use Rattle.mum_owner.specs.declared.guests.Guest.{Guest}
+use Rattle.mum_owner.proofs.Common.{◌+◌, List, subst, sym, IsTrue, vec_capacity, GuestsFacts, AreKept, has_room, Guest}
 use Rattle.mum_owner.proofs.Rows.{kept_entered, room_so}
 use Rattle.mum_owner.proofs.guests.Guests.enter.Goals as goal
 

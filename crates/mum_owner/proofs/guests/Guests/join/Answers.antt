@@ -1,7 +1,4 @@
-use Rattle.std.proofs.Common.{List, subst, sym}
-use Rattle.std.specs.Vec.{vec_capacity}
-use Rattle.mum_owner.specs.Guests.{AreKept, seated}
-use Rattle.mum_owner.specs.declared.guests.Guest.{Guest}
+use Rattle.mum_owner.proofs.Common.{List, subst, sym, vec_capacity, AreKept, seated, Guest}
 use Rattle.mum_owner.proofs.Rows.{kept_mapped, seated_number}
 use Rattle.mum_owner.proofs.guests.Guests.join.Goals as goal
 

@@ -1,8 +1,4 @@
-use Rattle.std.proofs.Common.{◌≡◌, ◌∙◌, ◌+◌, List, true, ap, subst, sym}
-use Rattle.std.specs.List.{list_any}
-use Rattle.std.specs.Vec.{vec_capacity}
-use Rattle.mum_owner.specs.Guests.{AreKept, is_of}
-use Rattle.mum_owner.specs.declared.guests.Guest.{Guest}
+use Rattle.mum_owner.proofs.Common.{◌≡◌, ◌∙◌, ◌+◌, List, true, ap, subst, sym, list_any, vec_capacity, AreKept, is_of, Guest}
 use Rattle.mum_owner.proofs.Rows.{kept_left}
 use Rattle.mum_owner.proofs.guests.Guests.leave.Goals as goal
 

@@ -1,7 +1,4 @@
-use Rattle.std.proofs.Common.{List, subst, sym}
-use Rattle.std.specs.Vec.{vec_capacity}
-use Rattle.mum_owner.specs.Guests.{AreKept, lag_noted}
-use Rattle.mum_owner.specs.declared.guests.Guest.{Guest}
+use Rattle.mum_owner.proofs.Common.{List, subst, sym, vec_capacity, AreKept, lag_noted, Guest}
 use Rattle.mum_owner.proofs.Rows.{kept_mapped, noted_number}
 use Rattle.mum_owner.proofs.guests.Guests.note_lag.Goals as goal
 

@@ -1,10 +1,5 @@
-use Rattle.std.proofs.Common.{subst}
-use Rattle.mum_published.specs.Bell.Rung.{Answer, Comes, Lagging}
-use Rattle.mum_published.specs.Facts.{ReplyFacts}
-use Rattle.mum_owner.specs.Facts.{KeptFacts}
-use Rattle.mum_owner.specs.Ringing.{OffersOne}
-use Rattle.mum_owner.specs.declared.kept.Coming.{Coming}
-use Rattle.mum_owner.specs.declared.kept.Lag.{Lag}
+use Rattle.mum_owner.proofs.Common.{subst, Comes, Lagging, ReplyFacts, KeptFacts, OffersOne, Coming, Lag}
+use Rattle.mum_published.specs.Bell.Rung.{Answer}
 use Rattle.mum_owner.proofs.kept.Kept.offer.Goals as goal
 
 pub returns : goal.returns

@@ -1,7 +1,4 @@
-use Rattle.std.proofs.Common.{subst, sym, arith}
-use Rattle.std.specs.List.{AllByRecursion}
-use Rattle.mum_port.specs.Asked.{WasAsked}
-use Rattle.mum_session.specs.declared.command.Command.{Command}
+use Rattle.mum_owner.proofs.Common.{subst, sym, arith, AllByRecursion, WasAsked, Command}
 use Rattle.mum_owner.proofs.Desks.{all_more}
 use Rattle.mum_owner.proofs.logins.Logins.wait.Goals as goal
 

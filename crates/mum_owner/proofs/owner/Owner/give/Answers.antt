@@ -1,7 +1,5 @@
-use Rattle.std.proofs.Common.{ap, refl}
-use Rattle.mum_owner.specs.Facts.{ScribeFacts}
-use Rattle.mum_owner.proofs.Counting.{given_count, seated_count}
-use Rattle.mum_owner.proofs.Deciding.{given_written}
+use Rattle.mum_owner.proofs.Common.{ap, refl, ScribeFacts}
+use Rattle.mum_owner.proofs.{Counting.given_count, Counting.seated_count, Deciding.given_written}
 use Rattle.mum_owner.proofs.owner.Owner.give.Goals as goal
 
 pub invariant_of-self : goal.invariant_of-self

@@ -1,7 +1,5 @@
-use Rattle.std.proofs.Common.{◌∙◌, ap, sym}
-use Rattle.mum_owner.proofs.Counting.{emptied_count, given_count, prepared_count}
-use Rattle.mum_owner.proofs.Deciding.{emptied_written, given_written, prepared_ok}
-use Rattle.mum_session.specs.declared.command.Command.{Command}
+use Rattle.mum_owner.proofs.Common.{◌∙◌, ap, sym, Command}
+use Rattle.mum_owner.proofs.{Counting.emptied_count, Counting.given_count, Counting.prepared_count, Deciding.emptied_written, Deciding.given_written, Deciding.prepared_ok}
 use Rattle.mum_owner.proofs.owner.Owner.give_leave.Goals as goal
 
 pub invariant_of-self-2 : goal.invariant_of-self-2

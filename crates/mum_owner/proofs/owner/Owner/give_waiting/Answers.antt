@@ -1,5 +1,4 @@
-use Rattle.std.proofs.Common.{◌∙◌, ap, sym}
-use Rattle.mum_owner.specs.Facts.{OwnerFacts}
+use Rattle.mum_owner.proofs.Common.{◌∙◌, ap, sym, OwnerFacts}
 use Rattle.mum_owner.proofs.Desks.{none_may_go}
 use Rattle.mum_owner.proofs.owner.Owner.give_waiting.Goals as goal
 

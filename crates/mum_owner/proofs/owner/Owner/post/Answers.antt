@@ -1,6 +1,6 @@
-use Rattle.std.proofs.Common.{◌∙◌, refl, sym}
-use Rattle.mum_control.specs.declared.posted.Posted.TheVariants as posted
+use Rattle.mum_owner.proofs.Common.{◌∙◌, refl, sym}
 use Rattle.mum_owner.proofs.Desks.{posted_one}
+use Rattle.mum_control.specs.declared.posted.Posted.TheVariants as posted
 use Rattle.mum_owner.proofs.owner.Owner.post.Goals as goal
 
 pub returns-in-None : goal.returns-in-None

@@ -1,7 +1,4 @@
-use Rattle.std.proofs.Common.{◌∙◌, sym, subst}
-use Rattle.std.specs.Prelude.{find}
-use Rattle.mum_port.specs.Asked.{WasAsked}
-use Rattle.mum_owner.specs.Guests.{is_of}
+use Rattle.mum_owner.proofs.Common.{◌∙◌, sym, subst, find, WasAsked, is_of}
 use Rattle.mum_owner.proofs.Desks.{owned_what}
 use Rattle.mum_owner.proofs.owner.Owner.receive.Goals as goal
 

@@ -1,4 +1,4 @@
-use Rattle.std.proofs.Common.{inl, inr}
+use Rattle.mum_owner.proofs.Common.{inl, inr}
 use Rattle.mum_owner.proofs.Warding.{lacked, removed}
 use Rattle.mum_owner.proofs.owner.Owner.remove.Goals as goal
 

@@ -1,6 +1,4 @@
-use Rattle.std.proofs.Common.{◌∙◌, List, ap, inr}
-use Rattle.mum_published.specs.declared.roll.Login.{Login}
-use Rattle.mum_owner.specs.Banning.{list_reply}
+use Rattle.mum_owner.proofs.Common.{◌∙◌, List, ap, inr, Login, list_reply}
 use Rattle.mum_owner.proofs.Warding.{decided, settled}
 use Rattle.mum_owner.proofs.owner.Owner.settle_list.Goals as goal
 

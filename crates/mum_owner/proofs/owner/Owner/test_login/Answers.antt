@@ -1,4 +1,4 @@
-use Rattle.std.proofs.Common.{false, true}
+use Rattle.mum_owner.proofs.Common.{false, true}
 use Rattle.mum_owner.proofs.Warding.{tested}
 use Rattle.mum_owner.proofs.owner.Owner.test_login.Goals as goal
 

@@ -1,5 +1,4 @@
-use Rattle.std.proofs.Common.{◌∙◌, ℕ, Bool, ap}
-use Rattle.mum_owner.specs.Opened.{opening_of}
+use Rattle.mum_owner.proofs.Common.{◌∙◌, ℕ, Bool, ap, opening_of}
 use Rattle.mum_owner.proofs.Opening.{done_where_ended, opening_stays}
 use Rattle.mum_owner.proofs.owner.Owner.turn.Goals as goal
 

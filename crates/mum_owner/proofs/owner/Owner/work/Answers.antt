@@ -1,7 +1,4 @@
-use Rattle.std.proofs.Common.{◌∙◌, Bool, ap, subst, sym}
-use Rattle.std.specs.Prelude.{◌&&◌, ◌||◌, not}
-use Rattle.mum_owner.specs.Banning.{has_note}
-use Rattle.mum_owner.specs.Turned.{Archives, has_ended, turn_of}
+use Rattle.mum_owner.proofs.Common.{◌∙◌, Bool, ap, subst, sym, ◌&&◌, ◌||◌, not, has_note, Archives, has_ended, turn_of}
 use Rattle.mum_owner.proofs.Noting.{noted_shown}
 use Rattle.mum_owner.proofs.owner.Owner.work.Goals as goal
 

@@ -1,4 +1,4 @@
-use Rattle.std.proofs.Common.{arith}
+use Rattle.mum_pace.proofs.Common.{arith}
 use Rattle.mum_pace.proofs.OnePiece.{small_pieces}
 use Rattle.mum_pace.proofs.frames.Frames.length_within.Goals as goal
 

@@ -1,10 +1,5 @@
-use Rattle.std.proofs.Common.{◌≡◌, ◌+◌, ◌-◌, ℕ, List, ◌++◌, length, ap, take, arith, ◌∙◌}
-use Rattle.std.proofs.Math.Seq.{take-length}
-use Rattle.std.proofs.lemmas.List.{length-take}
-use Rattle.std.proofs.lemmas.Slice.{take-put_mid}
-use Rattle.mum_pace.specs.Places.{begun, place_of}
-use Rattle.mum_pace.proofs.Headers.{written_to_the_end}
-use Rattle.mum_pace.proofs.Runs.{gathered, header_front, ended_front}
+use Rattle.mum_pace.proofs.Common.{◌≡◌, ◌+◌, ◌-◌, ℕ, List, ◌++◌, length, ap, take, arith, ◌∙◌, take-length, length-take, take-put_mid, begun, place_of}
+use Rattle.mum_pace.proofs.{Headers.written_to_the_end, Runs.gathered, Runs.header_front, Runs.ended_front}
 use Rattle.mum_pace.proofs.frames.Frames.pass_header.Goals as goal
 
 pub returns-then-self-length-lt-HEADER_LENGTH : goal.returns-then-self-length-lt-HEADER_LENGTH

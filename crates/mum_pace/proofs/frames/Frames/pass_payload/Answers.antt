@@ -1,6 +1,4 @@
-use Rattle.std.proofs.Common.{ℕ, ap, refl, take, arith, ◌∙◌}
-use Rattle.mum_pace.specs.declared.frames.Cost.{Cost}
-use Rattle.mum_pace.specs.Places.{place_of}
+use Rattle.mum_pace.proofs.Common.{ℕ, ap, refl, take, arith, ◌∙◌, Cost, place_of}
 use Rattle.mum_pace.proofs.Runs.{cost_of_pieces, payload_front}
 use Rattle.mum_pace.proofs.frames.Frames.pass_payload.Goals as goal
 

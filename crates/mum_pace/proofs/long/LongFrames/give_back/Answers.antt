@@ -1,4 +1,4 @@
-use Rattle.std.proofs.Common.{rules}
+use Rattle.mum_pace.proofs.Common.{rules}
 use Rattle.mum_pace.proofs.Together.{gives_back}
 use Rattle.mum_pace.proofs.long.LongFrames.give_back.Goals as goal
 

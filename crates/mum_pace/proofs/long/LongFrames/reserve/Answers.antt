@@ -1,4 +1,4 @@
-use Rattle.std.proofs.Common.{rules}
+use Rattle.mum_pace.proofs.Common.{rules}
 use Rattle.mum_pace.proofs.Together.{exchanges}
 use Rattle.mum_pace.proofs.long.LongFrames.reserve.Goals as goal
 

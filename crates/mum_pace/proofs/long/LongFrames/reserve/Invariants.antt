@@ -1,4 +1,4 @@
-use Rattle.std.proofs.Common.{◌≡◌}
+use Rattle.mum_pace.proofs.Common.{◌≡◌}
 use Rattle.mum_pace.proofs.long.LongFrames.reserve.Given as goal
 
 abbrev pub invariant-loop : goal.invariant-loop

@@ -1,4 +1,4 @@
-use Rattle.std.proofs.Common.{rules}
+use Rattle.mum_pace.proofs.Common.{rules}
 use Rattle.mum_pace.proofs.Together.{comes}
 use Rattle.mum_pace.proofs.long.LongFrames.seat.Goals as goal
 

@@ -1,7 +1,4 @@
-use Rattle.std.proofs.Common.{◌≡◌, [], arith, sym, ◌∙◌}
-use Rattle.std.proofs.lemmas.Bool.Decides.{nat_tests}
-use Rattle.mum_pace.specs.Places.{place_of}
-use Rattle.mum_pace.specs.Meters.{state_of}
+use Rattle.mum_pace.proofs.Common.{◌≡◌, [], arith, sym, ◌∙◌, nat_tests, place_of, state_of}
 use Rattle.mum_pace.proofs.Counting.{empty, few_frames, frames_so_far, nothing_counted, nothing_read}
 use Rattle.mum_pace.proofs.meter.Meter.count.Goals as goal
 

@@ -1,6 +1,4 @@
-use Rattle.std.proofs.Common.{◌≡◌, ◌+◌, ◌&&◌, length}
-use Rattle.mum_pace.specs.Places.{are_of_pings, cost_in, place_of}
-use Rattle.mum_pace.specs.Meters.{after_read, state_of}
+use Rattle.mum_pace.proofs.Common.{◌≡◌, ◌+◌, ◌&&◌, length, are_of_pings, cost_in, place_of, after_read, state_of}
 use Rattle.mum_pace.proofs.meter.Meter.count.Given as goal
 
 -- what is left to count makes of the meter and the answer what all that was read does

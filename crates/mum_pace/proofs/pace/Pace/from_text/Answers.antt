@@ -1,5 +1,4 @@
-use Rattle.std.proofs.Common.{refl, sym, ◌∙◌}
-use Rattle.mum_pace.specs.Texts.{rate_of}
+use Rattle.mum_pace.proofs.Common.{refl, sym, ◌∙◌, rate_of}
 use Rattle.mum_pace.proofs.Sayings.{no_limits, no_pace, no_voice, pace_is}
 use Rattle.mum_pace.proofs.pace.Pace.from_text.Goals as goal
 

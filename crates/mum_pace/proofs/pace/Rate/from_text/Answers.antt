@@ -1,5 +1,4 @@
-use Rattle.std.proofs.Common.{refl, sym, ◌∙◌}
-use Rattle.mum_pace.specs.Texts.{number_of}
+use Rattle.mum_pace.proofs.Common.{refl, sym, ◌∙◌, number_of}
 use Rattle.mum_pace.proofs.Sayings.{no_once, no_rate, rate_is}
 use Rattle.mum_pace.proofs.pace.Rate.from_text.Goals as goal
 

@@ -1,7 +1,5 @@
-use Rattle.std.proofs.Common.{◌∙◌}
-use Rattle.std.proofs.lemmas.Result.{IfOk-weaker}
-use Rattle.mum_port.proofs.Asking.{asks-as_heard}
-use Rattle.mum_port.proofs.Machines.{frame_keeps_numbers}
+use Rattle.mum_port.proofs.Common.{◌∙◌, IfOk-weaker}
+use Rattle.mum_port.proofs.{Asking.asks-as_heard, Machines.frame_keeps_numbers}
 use Rattle.mum_port.proofs.client.Client.frame.Goals as goal
 
 pub invariant_of-self : goal.invariant_of-self

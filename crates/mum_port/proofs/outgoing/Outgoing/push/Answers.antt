@@ -1,4 +1,4 @@
-use Rattle.std.proofs.Common.{◌≡◌, ◌+◌, ◌<◌, length, arith, ap}
+use Rattle.mum_port.proofs.Common.{◌≡◌, ◌+◌, ◌<◌, length, arith, ap}
 use Rattle.mum_port.proofs.Wires.{HaveBytes-pushed, length-pushed, unwritten-pushed}
 use Rattle.mum_port.proofs.outgoing.Outgoing.push.Goals as goal
 

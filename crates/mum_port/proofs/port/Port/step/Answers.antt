@@ -1,8 +1,5 @@
-use Rattle.std.proofs.Common.{Bool, ◌∙◌, subst, sym}
-use Rattle.mum_port.specs.Steps.{Settles}
-use Rattle.mum_port.specs.Taking.{IsPosted, IsVoiced}
-use Rattle.mum_port.proofs.PassesKept.{Handles-passes, Puts-queue, Puts-passes, Reads-passes, Settles-passes, TakesParcels-posted, TakesParcels-voiced, Writes-passes}
-use Rattle.mum_port.proofs.Turned.{did_turn}
+use Rattle.mum_port.proofs.Common.{Bool, ◌∙◌, subst, sym, Settles, IsPosted, IsVoiced}
+use Rattle.mum_port.proofs.{PassesKept.Handles-passes, PassesKept.Puts-queue, PassesKept.Puts-passes, PassesKept.Reads-passes, PassesKept.Settles-passes, PassesKept.TakesParcels-posted, PassesKept.TakesParcels-voiced, PassesKept.Writes-passes, Turned.did_turn}
 use Rattle.mum_port.proofs.port.Port.step.Goals as goal
 
 pub take-posted-requires-clause-posts : goal.take-posted-requires-clause-posts

@@ -1,5 +1,4 @@
-use Rattle.std.proofs.Common.{◌∙◌, ap, inl, sym}
-use Rattle.mum_port.specs.Facts.{PortFacts}
+use Rattle.mum_port.proofs.Common.{◌∙◌, ap, inl, sym, PortFacts}
 use Rattle.mum_port.proofs.port.Port.take.Goals as goal
 
 pub returns : goal.returns

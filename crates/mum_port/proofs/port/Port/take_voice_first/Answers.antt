@@ -1,5 +1,4 @@
-use Rattle.std.proofs.Common.{Bool, ◌∙◌, refl, subst, sym}
-use Rattle.mum_port.specs.Steps.{CollectsBehind}
+use Rattle.mum_port.proofs.Common.{Bool, ◌∙◌, refl, subst, sym, CollectsBehind}
 use Rattle.mum_port.specs.declared.outbound.Taking.TheVariants.{NotDue}
 use Rattle.mum_port.proofs.port.Port.take_voice_first.Goals as goal
 

@@ -1,4 +1,4 @@
-use Rattle.std.proofs.Common.{◌≡◌}
+use Rattle.mum_published.proofs.Common.{◌≡◌}
 use Rattle.mum_published.proofs.ledger.Ledger.put.Given as goal
 
 -- nothing was added so far

@@ -1,4 +1,4 @@
-use Rattle.mum_tree.proofs.Marks.{none_marked}
+use Rattle.mum_rules_tree.proofs.Common.{none_marked}
 use Rattle.mum_rules_tree.proofs.met.MetPlaces.none.Goals as goal
 
 pub returns : goal.returns

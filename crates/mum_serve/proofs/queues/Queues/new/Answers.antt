@@ -1,9 +1,6 @@
 -- Each worker gets its half of the numbers, and a bell.
-use Rattle.std.proofs.Common.{◌≡◌, ◌∙◌, arith}
-use Rattle.mum_outbox.proofs.Giving.{has_fewer}
-use Rattle.mum_serve.specs.Queues.{numbers_behind}
-use Rattle.mum_serve.proofs.Naming.{have_fewer, numbers_some}
-use Rattle.mum_serve.proofs.Sharing.{are_shared, none_shared}
+use Rattle.mum_serve.proofs.Common.{◌≡◌, ◌∙◌, arith, has_fewer, numbers_behind}
+use Rattle.mum_serve.proofs.{Naming.have_fewer, Naming.numbers_some, Sharing.are_shared, Sharing.none_shared}
 use Rattle.mum_serve.proofs.queues.Queues.new.Goals as goal
 
 pub workers-init : goal.workers-init

@@ -1,4 +1,4 @@
-use Rattle.mum_serve.specs.Queues.{HaveShared}
+use Rattle.mum_serve.proofs.Common.{HaveShared}
 use Rattle.mum_serve.proofs.queues.Queues.new.Given as goal
 
 abbrev pub invariant-workers : goal.invariant-workers

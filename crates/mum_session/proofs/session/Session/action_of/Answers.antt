@@ -1,6 +1,4 @@
-use Rattle.std.proofs.Common.{◌≡◌, ◌∙◌, rules}
-use Rattle.std.proofs.lemmas.Result.{IfOk-weaker}
-use Rattle.mum_frame.specs.declared.kind.TheConstants.{UDP_TUNNEL, PING, AUTHENTICATE}
+use Rattle.mum_session.proofs.Common.{◌≡◌, ◌∙◌, rules, IfOk-weaker, UDP_TUNNEL, PING, AUTHENTICATE}
 use Rattle.mum_session.proofs.Frames.{other-asks}
 use Rattle.mum_session.proofs.session.Session.action_of.Goals as goal
 

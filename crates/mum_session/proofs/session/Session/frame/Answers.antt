@@ -1,11 +1,5 @@
-use Rattle.std.proofs.Common.{◌∙◌, Bool, ap, sym, refl}
-use Rattle.std.proofs.lemmas.Result.{IfOk-weaker, on_ok_weaker}
-use Rattle.mum_fields.specs.Table.{decoded}
-use Rattle.mum_msg_state.specs.Messages.{version}
-use Rattle.mum_session.specs.Action.{version_action, version_after}
-use Rattle.mum_session.specs.Machine.{Machine, is_rejected}
-use Rattle.mum_session.proofs.Frames.{behind, behind-gone, behind-version, version-asks}
-use Rattle.mum_session.proofs.Strangers.{gone}
+use Rattle.mum_session.proofs.Common.{◌∙◌, Bool, ap, sym, refl, IfOk-weaker, on_ok_weaker, decoded, version, version_action, version_after, Machine, is_rejected}
+use Rattle.mum_session.proofs.{Frames.behind, Frames.behind-gone, Frames.behind-version, Frames.version-asks, Strangers.gone}
 use Rattle.mum_session.proofs.session.Session.frame.Goals as goal
 
 abbrev stage_test : Machine → Bool

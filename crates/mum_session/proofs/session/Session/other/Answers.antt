@@ -1,5 +1,4 @@
-use Rattle.std.proofs.Common.{◌∙◌, sym}
-use Rattle.std.proofs.lemmas.Result.{IfOk-weaker}
+use Rattle.mum_session.proofs.Common.{◌∙◌, sym, IfOk-weaker}
 use Rattle.mum_session.proofs.Lists.{listed}
 use Rattle.mum_session.proofs.session.Session.other.Goals as goal
 

@@ -1,10 +1,5 @@
-use Rattle.std.proofs.Common.{◌∙◌, ap, sym, subst}
-use Rattle.std.specs.List.{list_any}
-use Rattle.mum_users.specs.Order.{Rises}
-use Rattle.mum_state.specs.State.{account_below, is_named, is_numbered}
-use Rattle.mum_state.specs.Stored.{number_below}
-use Rattle.mum_state.proofs.Insertion.{numbers_with}
-use Rattle.mum_state.proofs.Orderly.{rises_with}
+use Rattle.mum_state.proofs.Common.{◌∙◌, ap, sym, subst, list_any, Rises, account_below, is_named, is_numbered, number_below}
+use Rattle.mum_state.proofs.{Insertion.numbers_with, Orderly.rises_with}
 use Rattle.mum_state.proofs.accounts.Accounts.add.Goals as goal
 
 pub put_number-requires-clause-rise : goal.put_number-requires-clause-rise

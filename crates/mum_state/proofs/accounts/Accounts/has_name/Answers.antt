@@ -1,5 +1,4 @@
-use Rattle.std.proofs.Common.{◌∙◌, ap, is_some}
-use Rattle.mum_state.specs.State.{is_named}
+use Rattle.mum_state.proofs.Common.{◌∙◌, ap, is_some, is_named}
 use Rattle.mum_state.proofs.Judged.{copied_some, some_any}
 use Rattle.mum_state.proofs.accounts.Accounts.has_name.Goals as goal
 

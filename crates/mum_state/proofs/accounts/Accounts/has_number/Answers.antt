@@ -1,7 +1,4 @@
-use Rattle.std.proofs.Common.{◌∙◌, ◌==◌, ap}
-use Rattle.std.specs.List.{list_any}
-use Rattle.mum_base.specs.declared.number.AccountId.{AccountId}
-use Rattle.mum_state.specs.State.{is_numbered}
+use Rattle.mum_state.proofs.Common.{◌∙◌, ◌==◌, ap, list_any, AccountId, is_numbered}
 use Rattle.mum_state.proofs.accounts.Accounts.has_number.Goals as goal
 
 pub returns : goal.returns

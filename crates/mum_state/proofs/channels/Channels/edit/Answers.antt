@@ -1,9 +1,5 @@
-use Rattle.std.proofs.Common.{◌∙◌, ap, sym, subst}
-use Rattle.mum_tree.specs.Change.{change_of, with_change}
-use Rattle.mum_tree.specs.State.{TreeState}
-use Rattle.mum_state.specs.Channels.{ChannelsState}
-use Rattle.mum_state.proofs.Governed.{edited_free, edited_value}
-use Rattle.mum_state.proofs.Laid.{IsOpenWhereFree}
+use Rattle.mum_state.proofs.Common.{◌∙◌, ap, sym, subst, change_of, with_change, TreeState, ChannelsState}
+use Rattle.mum_state.proofs.{Governed.edited_free, Governed.edited_value, Laid.IsOpenWhereFree}
 use Rattle.mum_state.proofs.channels.Channels.edit.Goals as goal
 
 pub invariant_of-self-2 : goal.invariant_of-self-2

@@ -1,5 +1,4 @@
-use Rattle.std.proofs.Common.{ap}
-use Rattle.mum_state.specs.Channels.{ChannelsState}
+use Rattle.mum_state.proofs.Common.{ap, ChannelsState}
 use Rattle.mum_state.proofs.ByPlace.{policy_there}
 use Rattle.mum_state.proofs.channels.Channels.granted_to.Goals as goal
 

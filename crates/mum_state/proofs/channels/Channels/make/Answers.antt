@@ -1,9 +1,5 @@
-use Rattle.std.proofs.Common.{◌≡◌, ◌∙◌, None, ap, sym, subst}
-use Rattle.mum_tree.specs.Refusals.{fault_of_set_info}
-use Rattle.mum_tree.specs.State.{TreeState, with_info, with_new}
-use Rattle.mum_state.specs.Channels.{ChannelsState, with_channel_made}
-use Rattle.mum_state.proofs.Governed.{made_value, new_there}
-use Rattle.mum_state.proofs.Laid.{IsOpenWhereFree, free_made}
+use Rattle.mum_state.proofs.Common.{◌≡◌, ◌∙◌, None, ap, sym, subst, fault_of_set_info, TreeState, with_info, with_new, ChannelsState, with_channel_made}
+use Rattle.mum_state.proofs.{Governed.made_value, Governed.new_there, Laid.IsOpenWhereFree, Laid.free_made}
 use Rattle.mum_state.proofs.channels.Channels.make.Goals as goal
 
 pub describe-requires : goal.describe-requires

@@ -1,6 +1,4 @@
-use Rattle.std.proofs.Common.{◌∙◌, ap, sym}
-use Rattle.mum_tree.specs.State.{TreeState}
-use Rattle.mum_state.specs.Channels.{ChannelsState, without_channel}
+use Rattle.mum_state.proofs.Common.{◌∙◌, ap, sym, TreeState, ChannelsState, without_channel}
 use Rattle.mum_state.proofs.Governed.{free_left, kept_there, removed_value}
 use Rattle.mum_state.proofs.channels.Channels.remove.Goals as goal
 

@@ -1,7 +1,4 @@
-use Rattle.std.proofs.Common.{◌∙◌, List, ap}
-use Rattle.mum_policy.specs.declared.policy.ChannelPolicy.{ChannelPolicy}
-use Rattle.mum_tree.specs.State.{TreeState}
-use Rattle.mum_state.specs.Channels.{ChannelsState}
+use Rattle.mum_state.proofs.Common.{◌∙◌, List, ap, ChannelPolicy, TreeState, ChannelsState}
 use Rattle.mum_state.proofs.Governed.{governed, raised_value}
 use Rattle.mum_state.proofs.channels.Channels.set_limit.Goals as goal
 

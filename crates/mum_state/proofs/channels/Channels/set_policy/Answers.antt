@@ -1,8 +1,5 @@
-use Rattle.std.proofs.Common.{◌∙◌, ◌<◌, length, arith, ap, sym, length-set}
-use Rattle.mum_state.specs.Channels.{ChannelsState}
-use Rattle.mum_state.specs.Set.{with_policy}
-use Rattle.mum_state.proofs.Governed.{set_value}
-use Rattle.mum_state.proofs.Laid.{free_set, within}
+use Rattle.mum_state.proofs.Common.{◌∙◌, ◌<◌, length, arith, ap, sym, length-set, ChannelsState, with_policy}
+use Rattle.mum_state.proofs.{Governed.set_value, Laid.free_set, Laid.within}
 use Rattle.mum_state.proofs.channels.Channels.set_policy.Goals as goal
 
 pub index_mut-requires : goal.index_mut-requires

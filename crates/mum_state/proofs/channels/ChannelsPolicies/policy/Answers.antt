@@ -1,8 +1,4 @@
-use Rattle.std.proofs.Common.{◌≡◌, ◌<◌, ℕ, List, length, ap, sym, subst, ◌∙◌}
-use Rattle.std.specs.List.{All}
-use Rattle.mum_policy.specs.declared.policy.ChannelPolicy.{ChannelPolicy}
-use Rattle.mum_tree.specs.declared.channel.Row.{Row}
-use Rattle.mum_state.specs.Channels.{ChannelsState}
+use Rattle.mum_state.proofs.Common.{◌≡◌, ◌<◌, ℕ, List, length, ap, sym, subst, ◌∙◌, All, ChannelPolicy, Row, ChannelsState}
 use Rattle.mum_state.proofs.ByPlace.{ArePlaced, place_within, policy_found, policy_missing}
 use Rattle.mum_state.proofs.channels.ChannelsPolicies.policy.Goals as goal
 

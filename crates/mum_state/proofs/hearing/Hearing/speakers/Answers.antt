@@ -1,11 +1,5 @@
-use Rattle.std.proofs.Common.{◌≡◌, ◌∙◌, ◌<◌, ◌==◌, ◌&&◌, List, get_or, length, refl, ap, arith}
-use Rattle.std.specs.List.{list_any}
-use Rattle.std.proofs.lemmas.List.{take_all}
-use Rattle.mum_base.specs.declared.number.TheConstants.{SLOTS}
-use Rattle.mum_users.specs.declared.user.User.{User}
-use Rattle.mum_state.proofs.Marking.{marked_more, none_marked, slots_within}
-use Rattle.mum_state.specs.Speakers.{is_speaker}
-use Rattle.mum_state.proofs.Speaking.{same_row}
+use Rattle.mum_state.proofs.Common.{◌≡◌, ◌∙◌, ◌<◌, ◌==◌, ◌&&◌, List, get_or, length, refl, ap, arith, list_any, take_all, SLOTS, User, is_speaker}
+use Rattle.mum_state.proofs.{Marking.marked_more, Marking.none_marked, Marking.slots_within, Speaking.same_row}
 use Rattle.mum_state.proofs.hearing.Hearing.speakers.Goals as goal
 
 pub loop-place-init : goal.loop-place-init

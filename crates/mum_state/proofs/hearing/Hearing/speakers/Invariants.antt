@@ -1,8 +1,4 @@
-use Rattle.std.proofs.Common.{◌≡◌, ◌==◌, ◌&&◌, ℕ, false, get_or, length, take}
-use Rattle.std.specs.List.{list_any}
-use Rattle.mum_base.specs.declared.number.TheConstants.{SLOTS}
-use Rattle.mum_users.specs.declared.user.User.{User}
-use Rattle.mum_state.specs.Speakers.{is_speaker}
+use Rattle.mum_state.proofs.Common.{◌≡◌, ◌==◌, ◌&&◌, ℕ, false, get_or, length, take, list_any, SLOTS, User, is_speaker}
 use Rattle.mum_state.proofs.hearing.Hearing.speakers.Given as goal
 
 abbrev pub invariant-loop-place : goal.invariant-loop-place

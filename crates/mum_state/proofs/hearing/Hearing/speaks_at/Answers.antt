@@ -1,9 +1,5 @@
-use Rattle.std.proofs.Common.{◌≡◌, ◌∙◌, ◌<◌, get_or, length, ap, arith}
-use Rattle.mum_base.specs.declared.number.TheConstants.{SLOTS}
-use Rattle.mum_users.specs.declared.user.User.{User}
-use Rattle.mum_state.specs.Channels.{speaks_where_in}
-use Rattle.mum_state.proofs.Marking.{slots_within}
-use Rattle.mum_state.proofs.Speaking.{same_row, speaks_alike}
+use Rattle.mum_state.proofs.Common.{◌≡◌, ◌∙◌, ◌<◌, get_or, length, ap, arith, SLOTS, User, speaks_where_in}
+use Rattle.mum_state.proofs.{Marking.slots_within, Speaking.same_row, Speaking.speaks_alike}
 use Rattle.mum_state.proofs.hearing.Hearing.speaks_at.Goals as goal
 
 pub bounds-speakers-users : goal.bounds-speakers-users

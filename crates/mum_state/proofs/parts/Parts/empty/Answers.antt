@@ -1,12 +1,4 @@
-use Rattle.std.proofs.Common.{refl, sym, subst, rules, arith}
-use Rattle.std.proofs.lemmas.List.Elements.{All-replicate}
-use Rattle.mum_tree.specs.Proper.{IsProper as IsProperTree}
-use Rattle.mum_tree.specs.State.{root_alone}
-use Rattle.mum_users.specs.Proper.{IsProper as IsProperRoster}
-use Rattle.mum_users.specs.State.{empty_roster}
-use Rattle.mum_state.specs.Channels.{ChannelsState}
-use Rattle.mum_state.specs.Proper.{IsNear, IsProper}
-use Rattle.mum_state.specs.State.{empty_state}
+use Rattle.mum_state.proofs.Common.{refl, sym, subst, rules, arith, All-replicate, IsProperTree, root_alone, IsProperRoster, empty_roster, ChannelsState, IsNear, IsProper, empty_state}
 use Rattle.mum_state.proofs.parts.Parts.empty.Goals as goal
 
 empty_proper : IsProperTree root_alone → IsProperRoster empty_roster → IsProper empty_state

@@ -1,8 +1,4 @@
-use Rattle.std.proofs.Common.{◌∙◌, Bool, ap, sym}
-use Rattle.mum_state.specs.declared.renewed.Renewed.{Renewed}
-use Rattle.mum_state.specs.declared.renewed.Renewed.TheVariants.{Nobody}
-use Rattle.mum_state.specs.Kinds.{sets_policy}
-use Rattle.mum_state.specs.Renewed.{heard_again}
+use Rattle.mum_state.proofs.Common.{◌∙◌, Bool, ap, sym, Renewed, Nobody, sets_policy, heard_again}
 use Rattle.mum_state.proofs.Marking.{heard_nobody}
 use Rattle.mum_state.proofs.parts.Parts.hear.Goals as goal
 

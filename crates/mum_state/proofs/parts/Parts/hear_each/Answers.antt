@@ -1,18 +1,6 @@
-use Rattle.std.proofs.Common.{◌≡◌, ◌∙◌, ◌==◌, ◌&&◌, ℕ, List, false, get_or, ap, sym, subst, IsTrue}
-use Rattle.std.specs.List.{list_all, list_any}
-use Rattle.mum_base.specs.declared.number.TheConstants.{SLOTS}
-use Rattle.mum_tree.specs.Rows.{is_there}
-use Rattle.mum_users.specs.declared.user.User.{User}
-use Rattle.mum_users.specs.Proper.{IsProper as IsProperRoster, SlotsRise}
-use Rattle.mum_users.specs.State.{RosterState}
-use Rattle.mum_users.proofs.Rosters.{slots_below_greatest}
-use Rattle.mum_state.specs.Channels.{channels_of}
-use Rattle.mum_state.specs.Renewed.{heard_again}
-use Rattle.mum_state.specs.State.{StateValue}
-use Rattle.mum_state.specs.Speakers.{is_speaker}
-use Rattle.mum_state.proofs.Speaking.{marked_seats}
+use Rattle.mum_state.proofs.Common.{◌≡◌, ◌∙◌, ◌==◌, ◌&&◌, ℕ, List, false, get_or, ap, sym, subst, IsTrue, list_all, list_any, SLOTS, is_there, User, IsProperRoster, SlotsRise, RosterState, slots_below_greatest, channels_of, heard_again, StateValue, is_speaker}
+use Rattle.mum_state.proofs.{Speaking.marked_seats, parts.Parts.hear_each.Goals.After-users}
 use Rattle.mum_state.proofs.parts.Parts.hear_each.Goals as goal
-use Rattle.mum_state.proofs.parts.Parts.hear_each.Goals.{After-users}
 
 -- the state before, by its parts
 abbrev before : After-users → StateValue

@@ -1,14 +1,6 @@
-use Rattle.std.proofs.Common.{◌≡◌, ◌∙◌, false, ap, sym, subst, IsTrue}
-use Rattle.std.specs.List.{list_all}
-use Rattle.std.proofs.lemmas.Option.{none-some}
-use Rattle.mum_tree.specs.Rows.{is_there}
-use Rattle.mum_users.specs.State.{RosterState}
-use Rattle.mum_state.specs.declared.renewed.Renewed.TheVariants.{One}
-use Rattle.mum_state.specs.Renewed.{heard_again}
-use Rattle.mum_state.specs.State.{StateValue}
-use Rattle.mum_state.proofs.Marking.{heard_absent, heard_here, heard_one}
+use Rattle.mum_state.proofs.Common.{◌≡◌, ◌∙◌, false, ap, sym, subst, IsTrue, list_all, none-some, is_there, RosterState, One, heard_again, StateValue}
+use Rattle.mum_state.proofs.{Marking.heard_absent, Marking.heard_here, Marking.heard_one, parts.Parts.hear_one.Goals.After-may_speak-speaks}
 use Rattle.mum_state.proofs.parts.Parts.hear_one.Goals as goal
-use Rattle.mum_state.proofs.parts.Parts.hear_one.Goals.{After-may_speak-speaks}
 
 -- the state before, by its parts
 abbrev before : After-may_speak-speaks → StateValue

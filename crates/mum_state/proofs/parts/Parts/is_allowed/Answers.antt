@@ -1,12 +1,4 @@
-use Rattle.std.proofs.Common.{◌∙◌, ◌&&◌, true, ap, sym, is_none}
-use Rattle.std.specs.Option.{option_map_or}
-use Rattle.mum_tree.specs.Change.{fault_of_edit}
-use Rattle.mum_users.specs.Edit.{edit_fault}
-use Rattle.mum_users.specs.State.{is_context}
-use Rattle.mum_state.specs.declared.edit.Edit.{Edit}
-use Rattle.mum_state.specs.Fits.{gives_right_numbers, holds_of_given, sets_properly}
-use Rattle.mum_state.specs.Parts.{channel_change, user_change}
-use Rattle.mum_state.specs.Proper.{is_name, is_text}
+use Rattle.mum_state.proofs.Common.{◌∙◌, ◌&&◌, true, ap, sym, is_none, option_map_or, fault_of_edit, edit_fault, is_context, Edit, gives_right_numbers, holds_of_given, sets_properly, channel_change, user_change, is_name, is_text}
 use Rattle.mum_state.proofs.parts.Parts.is_allowed.Goals as goal
 
 pub returns-in-EditChannel : goal.returns-in-EditChannel

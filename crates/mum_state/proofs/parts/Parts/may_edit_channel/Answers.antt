@@ -1,8 +1,4 @@
-use Rattle.std.proofs.Common.{◌∙◌, true, Option, ap, sym, is_none}
-use Rattle.std.specs.Option.{option_map_or}
-use Rattle.mum_tree.specs.Change.{Change, change_of, fault_of_edit}
-use Rattle.mum_tree.specs.State.{TreeState}
-use Rattle.mum_state.specs.State.{StateValue}
+use Rattle.mum_state.proofs.Common.{◌∙◌, true, Option, ap, sym, is_none, option_map_or, Change, change_of, fault_of_edit, TreeState, StateValue}
 use Rattle.mum_state.proofs.Judged.{none_from}
 use Rattle.mum_state.proofs.parts.Parts.may_edit_channel.Goals as goal
 

@@ -1,10 +1,4 @@
-use Rattle.std.proofs.Common.{◌∙◌, List, ap, sym}
-use Rattle.mum_base.specs.declared.number.ChannelId.{ChannelId}
-use Rattle.mum_policy.specs.Member.{Actor}
-use Rattle.mum_tree.specs.State.{TreeState}
-use Rattle.mum_state.specs.Channels.{channels_of, granted_where_in}
-use Rattle.mum_state.specs.Permissions.{actor_at, home, perm_of}
-use Rattle.mum_state.specs.State.{StateValue}
+use Rattle.mum_state.proofs.Common.{◌∙◌, List, ap, sym, ChannelId, Actor, TreeState, channels_of, granted_where_in, actor_at, home, perm_of, StateValue}
 use Rattle.mum_state.proofs.Asked.{asked_of}
 use Rattle.mum_state.proofs.parts.Parts.permissions_of.Goals as goal
 

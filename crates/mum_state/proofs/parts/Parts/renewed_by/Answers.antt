@@ -1,17 +1,4 @@
-use Rattle.std.proofs.Common.{◌≡◌, ◌∙◌, ◌==◌, ◌&&◌, true, ap, sym, subst}
-use Rattle.std.specs.List.{list_any}
-use Rattle.std.specs.Option.{option_map}
-use Rattle.mum_base.specs.declared.number.TheConstants.{SLOTS}
-use Rattle.mum_tree.specs.Rows.{is_below}
-use Rattle.mum_tree.specs.State.{TreeState}
-use Rattle.mum_users.specs.declared.user.User.{User}
-use Rattle.mum_users.specs.Proper.{SlotsRise}
-use Rattle.mum_users.proofs.Rosters.{slots_below_greatest}
-use Rattle.mum_state.specs.declared.edit.Edit.{Edit}
-use Rattle.mum_state.specs.Counts.{renews}
-use Rattle.mum_state.specs.Fits.{fits}
-use Rattle.mum_state.specs.Parts.{session_edit}
-use Rattle.mum_state.specs.State.{StateValue}
+use Rattle.mum_state.proofs.Common.{◌≡◌, ◌∙◌, ◌==◌, ◌&&◌, true, ap, sym, subst, list_any, option_map, SLOTS, is_below, TreeState, User, SlotsRise, slots_below_greatest, Edit, renews, fits, session_edit, StateValue}
 use Rattle.mum_state.proofs.Renewing.{renews_joined, renews_maker, renews_nobody, renews_removed, renews_tokens, renews_user}
 use Rattle.mum_state.proofs.parts.Parts.renewed_by.Goals as goal
 

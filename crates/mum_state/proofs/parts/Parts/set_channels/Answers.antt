@@ -1,13 +1,5 @@
-use Rattle.std.proofs.Common.{◌≡◌, ◌∙◌, true, ap, subst}
-use Rattle.std.specs.Option.{option_map}
-use Rattle.mum_tree.specs.Change.{change_of}
-use Rattle.mum_tree.specs.Refusals.{fault_of_remove}
-use Rattle.mum_state.specs.declared.edit.Edit.{Edit}
-use Rattle.mum_state.specs.Fits.{fits}
-use Rattle.mum_state.specs.Parts.{channel_edit}
-use Rattle.mum_state.specs.State.{StateValue}
-use Rattle.mum_state.proofs.Marking.{making_fits, removal_fits}
-use Rattle.mum_state.proofs.OfSession.{channel_fits}
+use Rattle.mum_state.proofs.Common.{◌≡◌, ◌∙◌, true, ap, subst, option_map, change_of, fault_of_remove, Edit, fits, channel_edit, StateValue}
+use Rattle.mum_state.proofs.{Marking.making_fits, Marking.removal_fits, OfSession.channel_fits}
 use Rattle.mum_state.proofs.parts.Parts.set_channels.Goals as goal
 
 pub edit_channel-requires : goal.edit_channel-requires

@@ -1,12 +1,5 @@
-use Rattle.std.proofs.Common.{◌≡◌, true, ap, subst}
-use Rattle.std.specs.Option.{option_map}
-use Rattle.mum_users.specs.Edit.{user_edit_of}
-use Rattle.mum_state.specs.declared.edit.Edit.{Edit}
-use Rattle.mum_state.specs.Fits.{fits}
-use Rattle.mum_state.specs.Parts.{session_edit}
-use Rattle.mum_state.proofs.Limiting.{limits_fit}
-use Rattle.mum_state.proofs.Marking.{account_fits}
-use Rattle.mum_state.proofs.OfSession.{user_fits}
+use Rattle.mum_state.proofs.Common.{◌≡◌, true, ap, subst, option_map, user_edit_of, Edit, fits, session_edit}
+use Rattle.mum_state.proofs.{Limiting.limits_fit, Marking.account_fits, OfSession.user_fits}
 use Rattle.mum_state.proofs.parts.Parts.set_others.Goals as goal
 
 pub edit_user-requires : goal.edit_user-requires

@@ -1,7 +1,4 @@
-use Rattle.std.proofs.Common.{◌∙◌, ◌&&◌, ◌==◌, ap, sym}
-use Rattle.std.specs.List.{list_any}
-use Rattle.mum_users.specs.State.{has_number}
-use Rattle.mum_state.specs.State.{StateValue}
+use Rattle.mum_state.proofs.Common.{◌∙◌, ◌&&◌, ◌==◌, ap, sym, list_any, has_number, StateValue}
 use Rattle.mum_state.proofs.Members.{any_found, any_missing}
 use Rattle.mum_state.proofs.parts.Parts.slot_of.Goals as goal
 

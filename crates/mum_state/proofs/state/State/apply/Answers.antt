@@ -1,6 +1,4 @@
-use Rattle.std.proofs.Common.{◌≡◌, true, sym, subst}
-use Rattle.mum_state.specs.Fits.{fits}
-use Rattle.mum_state.specs.State.{StateValue}
+use Rattle.mum_state.proofs.Common.{◌≡◌, true, sym, subst, fits, StateValue}
 use Rattle.mum_state.proofs.Staged.{proper_after}
 use Rattle.mum_state.proofs.state.State.apply.Goals as goal
 

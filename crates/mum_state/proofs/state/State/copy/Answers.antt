@@ -1,5 +1,4 @@
-use Rattle.std.proofs.Common.{sym, subst}
-use Rattle.mum_state.specs.Proper.{IsProper}
+use Rattle.mum_state.proofs.Common.{sym, subst, IsProper}
 use Rattle.mum_state.proofs.state.State.copy.Goals as goal
 
 pub returns-clause-proper : goal.returns-clause-proper

@@ -1,8 +1,4 @@
-use Rattle.std.proofs.Common.{◌≡◌, ◌<◌, List, true, take, ap, sym, subst, ◌∙◌, rules}
-use Rattle.std.specs.Prelude.{◌↔◌}
-use Rattle.std.specs.List.{AllPairs, Contains}
-use Rattle.std.proofs.lemmas.List.Sorted.{answers_always}
-use Rattle.mum_base.specs.declared.number.ChannelId.{ChannelId}
+use Rattle.mum_tree.proofs.Common.{◌≡◌, ◌<◌, List, true, take, ap, sym, subst, ◌∙◌, rules, ◌↔◌, AllPairs, Contains, answers_always, ChannelId}
 use Rattle.mum_tree.proofs.Search.{found_by_binary_search, told_by_search}
 use Rattle.mum_tree.proofs.scratch.Scratch.marked.Goals as goal
 

@@ -1,13 +1,6 @@
-use Rattle.std.proofs.Common.{◌≡◌, ◌<◌, ◌∙◌, List, length, arith, ap, sym, subst, None}
-use Rattle.mum_tree.specs.declared.channel.Row.{Row}
-use Rattle.mum_tree.specs.Proper.{IsProper}
-use Rattle.mum_tree.specs.Refusals.{fault_of_add}
-use Rattle.mum_tree.specs.Places.{least_place}
-use Rattle.mum_tree.specs.State.{TreeState}
-use Rattle.mum_tree.proofs.Edits.{added_proper}
-use Rattle.mum_tree.proofs.Numbered.{grown_numbered}
+use Rattle.mum_tree.proofs.Common.{◌≡◌, ◌<◌, ◌∙◌, List, length, arith, ap, sym, subst, None, Row, IsProper, fault_of_add, least_place, TreeState}
+use Rattle.mum_tree.proofs.{Edits.added_proper, Numbered.grown_numbered, tree.Tree.add.Goals.In_ok-push}
 use Rattle.mum_tree.proofs.tree.Tree.add.Goals as goal
-use Rattle.mum_tree.proofs.tree.Tree.add.Goals.{In_ok-push}
 
 proper : (c : In_ok-push) → IsProper (record { channels = c.push.new.self.items; links = c.self.inside.links.items; greatest = c.args.id.0; limit = c.self.inside.limit })
 proper c =

@@ -1,15 +1,6 @@
-use Rattle.std.proofs.Common.{◌≡◌, ◌∙◌, ◌<◌, ℕ, true, List, Option, None, length, refl, ap, set, sym, subst}
-use Rattle.std.specs.List.{list_all}
-use Rattle.mum_tree.specs.declared.channel.Channel.{Channel}
-use Rattle.mum_tree.specs.Change.{change_of, fault_of_edit, given_or, pairs_with_all, pairs_without_all, with_change}
-use Rattle.mum_tree.specs.Proper.{IsProper}
-use Rattle.mum_tree.specs.State.{Pair, TreeState}
-use Rattle.mum_tree.specs.Rows.{is_there}
-use Rattle.mum_tree.specs.declared.channel.Row.{Row}
-use Rattle.mum_tree.proofs.Edited.{edited, may_relink, same_given, MayRelink}
-use Rattle.mum_tree.proofs.Numbered.{components_set, numbered_as_seen, pairs_seen}
+use Rattle.mum_tree.proofs.Common.{◌≡◌, ◌∙◌, ◌<◌, ℕ, true, List, Option, None, length, refl, ap, set, sym, subst, list_all, Channel, change_of, fault_of_edit, given_or, pairs_with_all, pairs_without_all, with_change, IsProper, Pair, TreeState, is_there, Row}
+use Rattle.mum_tree.proofs.{Edited.edited, Edited.may_relink, Edited.same_given, Edited.MayRelink, Numbered.components_set, Numbered.numbered_as_seen, Numbered.pairs_seen, tree.Tree.edit.Goals.After-give-5, tree.Tree.edit.Goals.After-reserve}
 use Rattle.mum_tree.proofs.tree.Tree.edit.Goals as goal
-use Rattle.mum_tree.proofs.tree.Tree.edit.Goals.{After-give-5, After-reserve}
 
 -- the tree as it was
 abbrev before : After-give-5 → TreeState

@@ -1,13 +1,6 @@
-use Rattle.std.proofs.Common.{◌≡◌, ◌∙◌, List, ap, sym, subst, None}
-use Rattle.std.specs.List.{list_any}
-use Rattle.mum_tree.specs.Proper.{IsProper}
-use Rattle.mum_tree.specs.Refusals.{fault_of_link}
-use Rattle.mum_tree.specs.State.{Pair, TreeState, is_pair, with_pair}
-use Rattle.mum_tree.proofs.Linking.{links_grown}
-use Rattle.mum_tree.proofs.Joined.{relinked}
-use Rattle.mum_tree.proofs.Numbered.{numbered_as_seen, pairs_seen}
+use Rattle.mum_tree.proofs.Common.{◌≡◌, ◌∙◌, List, ap, sym, subst, None, list_any, IsProper, fault_of_link, Pair, TreeState, is_pair, with_pair}
+use Rattle.mum_tree.proofs.{Linking.links_grown, Joined.relinked, Numbered.numbered_as_seen, Numbered.pairs_seen, tree.Tree.link.Goals.After-put_link}
 use Rattle.mum_tree.proofs.tree.Tree.link.Goals as goal
-use Rattle.mum_tree.proofs.tree.Tree.link.Goals.{After-put_link}
 
 -- the tree as it was, with these links
 abbrev with_links : After-put_link → List Pair → TreeState

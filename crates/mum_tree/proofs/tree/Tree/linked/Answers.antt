@@ -1,13 +1,5 @@
-use Rattle.std.proofs.Common.{◌≡◌, ◌∙◌, ◌<◌, ℕ, Bool, true, eqb, List, filter, get_or, length, map, ap, sym, subst}
-use Rattle.std.specs.Prelude.{◌↔◌}
-use Rattle.std.specs.List.{Contains}
-use Rattle.mum_base.specs.declared.number.ChannelId.{ChannelId}
-use Rattle.mum_tree.specs.declared.channel.Row.{Row}
-use Rattle.mum_tree.specs.Rows.{is_there}
-use Rattle.mum_tree.specs.State.{TreeState}
-use Rattle.mum_tree.specs.Walks.{linked, LeadTo}
-use Rattle.mum_tree.proofs.Closure.{linked_leads}
-use Rattle.mum_tree.proofs.Numbered.{marked_linked}
+use Rattle.mum_tree.proofs.Common.{◌≡◌, ◌∙◌, ◌<◌, ℕ, Bool, true, eqb, List, filter, get_or, length, map, ap, sym, subst, ◌↔◌, Contains, ChannelId, Row, is_there, TreeState, linked, LeadTo}
+use Rattle.mum_tree.proofs.{Closure.linked_leads, Numbered.marked_linked}
 use Rattle.mum_tree.proofs.tree.Tree.linked.Goals as goal
 
 pub returns-clause-marks : goal.returns-clause-marks

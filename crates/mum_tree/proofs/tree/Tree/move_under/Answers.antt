@@ -1,13 +1,6 @@
-use Rattle.std.proofs.Common.{◌≡◌, ◌<◌, ◌∙◌, List, length, refl, ap, sym, subst, set, None}
-use Rattle.mum_tree.specs.declared.channel.Row.{Row}
-use Rattle.mum_tree.specs.Components.{AreComponents}
-use Rattle.mum_tree.specs.Proper.{IsProper}
-use Rattle.mum_tree.specs.Refusals.{fault_of_move}
-use Rattle.mum_tree.specs.State.{TreeState, changed, with_channel}
-use Rattle.mum_tree.proofs.Moved.{moving, under_parent}
-use Rattle.mum_tree.proofs.Numbered.{components_set}
+use Rattle.mum_tree.proofs.Common.{◌≡◌, ◌<◌, ◌∙◌, List, length, refl, ap, sym, subst, set, None, Row, AreComponents, IsProper, fault_of_move, TreeState, changed, with_channel}
+use Rattle.mum_tree.proofs.{Moved.moving, Moved.under_parent, Numbered.components_set, tree.Tree.move_under.Goals.After-index_mut-row}
 use Rattle.mum_tree.proofs.tree.Tree.move_under.Goals as goal
-use Rattle.mum_tree.proofs.tree.Tree.move_under.Goals.{After-index_mut-row}
 
 -- the tree as it was
 abbrev before : After-index_mut-row → TreeState

@@ -1,5 +1,4 @@
-use Rattle.mum_tree.proofs.Numbered.{made_numbered}
-use Rattle.mum_tree.proofs.Start.{made_proper}
+use Rattle.mum_tree.proofs.{Numbered.made_numbered, Start.made_proper}
 use Rattle.mum_tree.proofs.tree.Tree.new.Goals as goal
 
 pub invariant_of-result : goal.invariant_of-result

@@ -1,8 +1,4 @@
-use Rattle.std.proofs.Common.{◌≡◌, ◌∙◌, ap, sym, length, []}
-use Rattle.std.proofs.lemmas.Bool.{eqb-true}
-use Rattle.std.proofs.lemmas.List.{nil_from_length}
-use Rattle.mum_tree.specs.Change.{change_of, overlinks}
-use Rattle.mum_tree.specs.State.{TreeState}
+use Rattle.mum_tree.proofs.Common.{◌≡◌, ◌∙◌, ap, sym, length, [], eqb-true, nil_from_length, change_of, overlinks, TreeState}
 use Rattle.mum_tree.proofs.Partners.{no_link_more}
 use Rattle.mum_tree.proofs.tree.Tree.overlinks.Goals as goal
 

@@ -1,7 +1,4 @@
-use Rattle.std.proofs.Common.{◌≡◌, ◌&&◌, false, length, take, leb}
-use Rattle.std.specs.List.{count_by, list_any}
-use Rattle.mum_tree.specs.Change.{change_of, is_new_partner, is_partner_after}
-use Rattle.mum_tree.specs.State.{partners}
+use Rattle.mum_tree.proofs.Common.{◌≡◌, ◌&&◌, false, length, take, leb, count_by, list_any, change_of, is_new_partner, is_partner_after, partners}
 use Rattle.mum_tree.proofs.tree.Tree.overlinks.Given as goal
 
 abbrev pub invariant-loop-row : goal.invariant-loop-row

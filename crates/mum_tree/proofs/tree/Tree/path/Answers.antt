@@ -1,8 +1,4 @@
-use Rattle.std.proofs.Common.{List, sym, subst, IfSome}
-use Rattle.mum_tree.specs.declared.channel.Row.{Row}
-use Rattle.mum_tree.specs.Proper.{LeadUp}
-use Rattle.mum_tree.specs.Rows.{IsWay}
-use Rattle.mum_tree.specs.State.{TreeState}
+use Rattle.mum_tree.proofs.Common.{List, sym, subst, IfSome, Row, LeadUp, IsWay, TreeState}
 use Rattle.mum_tree.proofs.Upward.{way_found}
 use Rattle.mum_tree.proofs.tree.Tree.path.Goals as goal
 

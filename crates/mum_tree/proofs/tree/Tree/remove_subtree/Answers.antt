@@ -1,18 +1,6 @@
-use Rattle.std.proofs.Common.{◌≡◌, ◌∙◌, ◌<◌, ◌&&◌, Bool, false, not, List, get_or, ap, sym, subst, None, rules}
-use Rattle.std.specs.List.{All, filter}
-use Rattle.std.proofs.lemmas.Bool.{eqb-false}
-use Rattle.std.proofs.lemmas.Fn.{filter_same}
-use Rattle.std.proofs.lemmas.List.Kept.{AllPairs-filter}
-use Rattle.mum_tree.specs.declared.channel.Row.{Row}
-use Rattle.mum_tree.specs.Refusals.{fault_of_remove}
-use Rattle.mum_tree.specs.Rows.{is_below, is_there, number, Rise}
-use Rattle.mum_tree.specs.State.{Pair, TreeState, without_rows, without_subtree}
-use Rattle.mum_tree.proofs.Edits.{may_go}
-use Rattle.mum_tree.proofs.Shrunk.{filter_agree_at, shrunk_proper, stays}
-use Rattle.mum_tree.specs.Proper.{IsProper}
-use Rattle.mum_tree.proofs.Numbered.{numbered_as_seen, pairs_seen}
+use Rattle.mum_tree.proofs.Common.{◌≡◌, ◌∙◌, ◌<◌, ◌&&◌, Bool, false, not, List, get_or, ap, sym, subst, None, rules, All, filter, eqb-false, filter_same, AllPairs-filter, Row, fault_of_remove, is_below, is_there, number, Rise, Pair, TreeState, without_rows, without_subtree, IsProper}
+use Rattle.mum_tree.proofs.{Edits.may_go, Shrunk.filter_agree_at, Shrunk.shrunk_proper, Shrunk.stays, Numbered.numbered_as_seen, Numbered.pairs_seen, tree.Tree.remove_subtree.Goals.After-keep_ends}
 use Rattle.mum_tree.proofs.tree.Tree.remove_subtree.Goals as goal
-use Rattle.mum_tree.proofs.tree.Tree.remove_subtree.Goals.{After-keep_ends}
 
 pub keep_ends-requires : goal.keep_ends-requires
 keep_ends-requires c =

@@ -1,13 +1,6 @@
-use Rattle.std.proofs.Common.{◌≡◌, ◌<◌, List, length, refl, ap, sym, subst, set, None}
-use Rattle.mum_tree.specs.declared.channel.Row.{Row}
-use Rattle.mum_tree.specs.Components.{AreComponents}
-use Rattle.mum_tree.specs.Proper.{IsProper}
-use Rattle.mum_tree.specs.Refusals.{fault_of_set_info}
-use Rattle.mum_tree.specs.State.{TreeState, changed, with_channel}
-use Rattle.mum_tree.proofs.Edits.{informed, informing}
-use Rattle.mum_tree.proofs.Numbered.{components_set}
+use Rattle.mum_tree.proofs.Common.{◌≡◌, ◌<◌, List, length, refl, ap, sym, subst, set, None, Row, AreComponents, IsProper, fault_of_set_info, TreeState, changed, with_channel}
+use Rattle.mum_tree.proofs.{Edits.informed, Edits.informing, Numbered.components_set, tree.Tree.set_info.Goals.After-index_mut-row}
 use Rattle.mum_tree.proofs.tree.Tree.set_info.Goals as goal
-use Rattle.mum_tree.proofs.tree.Tree.set_info.Goals.{After-index_mut-row}
 
 -- the tree as it was
 abbrev before : After-index_mut-row → TreeState

@@ -1,6 +1,4 @@
-use Rattle.std.proofs.Common.{◌∙◌, List, ap}
-use Rattle.mum_tree.specs.declared.channel.Row.{Row}
-use Rattle.mum_tree.specs.State.{TreeState, below}
+use Rattle.mum_tree.proofs.Common.{◌∙◌, List, ap, Row, TreeState, below}
 use Rattle.mum_tree.proofs.tree.Tree.subtree.Goals as goal
 
 pub returns : goal.returns

@@ -1,10 +1,5 @@
-use Rattle.std.proofs.Common.{◌≡◌, ◌∙◌, ◌<◌, ℕ, List, refl, ap, sym, subst}
-use Rattle.std.specs.List.{All}
-use Rattle.mum_tree.specs.declared.channel.Row.{Row}
-use Rattle.mum_tree.specs.Places.{has_place, IsFree}
-use Rattle.mum_tree.specs.State.{TreeState}
-use Rattle.mum_tree.proofs.Limited.{placed_within}
-use Rattle.mum_tree.proofs.Places.{marks_had}
+use Rattle.mum_tree.proofs.Common.{◌≡◌, ◌∙◌, ◌<◌, ℕ, List, refl, ap, sym, subst, All, Row, has_place, IsFree, TreeState}
+use Rattle.mum_tree.proofs.{Limited.placed_within, Places.marks_had}
 use Rattle.mum_tree.proofs.tree.Tree.taken_places.Goals as goal
 
 pub returns-clause-taken : goal.returns-clause-taken

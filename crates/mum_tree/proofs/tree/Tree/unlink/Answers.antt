@@ -1,11 +1,6 @@
-use Rattle.std.proofs.Common.{◌≡◌, ◌∙◌, List, ap, sym, subst, rules}
-use Rattle.std.specs.List.{list_any}
-use Rattle.mum_tree.specs.Proper.{IsProper}
-use Rattle.mum_tree.specs.State.{Pair, TreeState, is_pair, pairs_without, without_link}
-use Rattle.mum_tree.proofs.Joined.{links_parted, parted_none, relinked}
-use Rattle.mum_tree.proofs.Numbered.{numbered_as_seen, pairs_seen}
+use Rattle.mum_tree.proofs.Common.{◌≡◌, ◌∙◌, List, ap, sym, subst, rules, list_any, IsProper, Pair, TreeState, is_pair, pairs_without, without_link}
+use Rattle.mum_tree.proofs.{Joined.links_parted, Joined.parted_none, Joined.relinked, Numbered.numbered_as_seen, Numbered.pairs_seen, tree.Tree.unlink.Goals.After-take_link}
 use Rattle.mum_tree.proofs.tree.Tree.unlink.Goals as goal
-use Rattle.mum_tree.proofs.tree.Tree.unlink.Goals.{After-take_link}
 
 -- the tree that is left
 proper : (c : After-take_link) → IsProper (record { channels = c.self.inside.rows.items; links = c.take_link.new.links.items; greatest = c.self.inside.greatest; limit = c.self.inside.limit })

@@ -1,6 +1,4 @@
-use Rattle.std.proofs.Common.{length, ap, ◌∙◌}
-use Rattle.std.proofs.lemmas.List.Sums.{length-filter}
-use Rattle.mum_users.specs.State.{is_of_session}
+use Rattle.mum_users.proofs.Common.{length, ap, ◌∙◌, length-filter, is_of_session}
 use Rattle.mum_users.proofs.listeners.Listeners.channel_count.Goals as goal
 
 pub returns : goal.returns

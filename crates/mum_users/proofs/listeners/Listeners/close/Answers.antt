@@ -1,4 +1,4 @@
-use Rattle.std.proofs.Common.{not}
+use Rattle.mum_users.proofs.Common.{not}
 use Rattle.mum_users.proofs.Indexes.{IsIndexed-filter}
 use Rattle.mum_users.proofs.listeners.Listeners.close.Goals as goal
 

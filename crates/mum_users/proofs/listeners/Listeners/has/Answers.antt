@@ -1,6 +1,4 @@
-use Rattle.std.proofs.Common.{ap, ◌∙◌}
-use Rattle.std.specs.List.{list_any}
-use Rattle.mum_users.specs.State.{is_of_channel}
+use Rattle.mum_users.proofs.Common.{ap, ◌∙◌, list_any, is_of_channel}
 use Rattle.mum_users.proofs.Pairs.{is_pair-of_session}
 use Rattle.mum_users.proofs.listeners.Listeners.has.Goals as goal
 

@@ -1,6 +1,4 @@
-use Rattle.std.proofs.Common.{◌&&◌, [], ◌∷◌, not}
-use Rattle.mum_base.specs.Channels.{is_among}
-use Rattle.mum_users.specs.State.{is_of_session}
+use Rattle.mum_users.proofs.Common.{◌&&◌, [], ◌∷◌, not, is_among, is_of_session}
 use Rattle.mum_users.proofs.Indexes.{IsIndexed-filter}
 use Rattle.mum_users.proofs.listeners.Listeners.leave.Goals as goal
 

@@ -1,6 +1,5 @@
-use Rattle.std.proofs.Common.{not}
-use Rattle.mum_users.proofs.ListenerMasks.{AreMasks-closed}
-use Rattle.mum_users.proofs.Rosters.{IsProper-fewer_listeners}
+use Rattle.mum_users.proofs.Common.{not}
+use Rattle.mum_users.proofs.{ListenerMasks.AreMasks-closed, Rosters.IsProper-fewer_listeners}
 use Rattle.mum_users.proofs.roster.Roster.close.Goals as goal
 
 pub invariant_of-self : goal.invariant_of-self

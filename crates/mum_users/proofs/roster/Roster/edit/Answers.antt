@@ -1,21 +1,6 @@
-use Rattle.std.proofs.Common.{◌≡◌, ◌+◌, ◌≤◌, ℕ, List, length, ap, arith, refl, set, sym, ◌∙◌}
-use Rattle.std.specs.List.{count_by, filter}
-use Rattle.std.specs.Vec.{vec_capacity, vec_len}
-use Rattle.std.proofs.lemmas.List.Sums.{length-filter}
-use Rattle.std.proofs.lemmas.Result.{err_from_is_err_and}
-use Rattle.mum_users.specs.declared.listening.ListenerPair.{ListenerPair}
-use Rattle.mum_users.specs.declared.masks.MaskRow.{MaskRow}
-use Rattle.mum_users.specs.Edit.{changed_user, user_edit_of}
-use Rattle.mum_users.specs.Numbers.{IsKept}
-use Rattle.mum_users.specs.Proper.{IsProper}
-use Rattle.mum_users.specs.SlotMasks.{with_pairs, without_pairs}
-use Rattle.mum_users.specs.State.{is_of_session}
-use Rattle.mum_users.proofs.Edits.{IsProper-edited_here, edit_absent, edited_now}
-use Rattle.mum_users.proofs.ListenerRows.{listeners-changed, listeners-left}
-use Rattle.mum_users.proofs.Rosters.{AreMasks-set, IsKept-of, IsNumbered-set, room_to_move}
-use Rattle.mum_users.proofs.Silence.{changed_user_keeps}
+use Rattle.mum_users.proofs.Common.{◌≡◌, ◌+◌, ◌≤◌, ℕ, List, length, ap, arith, refl, set, sym, ◌∙◌, count_by, filter, vec_capacity, vec_len, length-filter, err_from_is_err_and, ListenerPair, MaskRow, changed_user, user_edit_of, IsKept, IsProper, with_pairs, without_pairs, is_of_session}
+use Rattle.mum_users.proofs.{Edits.IsProper-edited_here, Edits.edit_absent, Edits.edited_now, ListenerRows.listeners-changed, ListenerRows.listeners-left, Rosters.AreMasks-set, Rosters.IsKept-of, Rosters.IsNumbered-set, Rosters.room_to_move, Silence.changed_user_keeps, roster.Roster.edit.Goals.After-change_row, roster.Roster.edit.Goals.After-set_pairs}
 use Rattle.mum_users.proofs.roster.Roster.edit.Goals as goal
-use Rattle.mum_users.proofs.roster.Roster.edit.Goals.{After-change_row, After-set_pairs}
 
 pub returns-in_default-clause-outcome : goal.returns-in_default-clause-outcome
 returns-in_default-clause-outcome c = (edit_absent _ _ c.args.session (user_edit_of c.args.change.now) _ c.self.view_is c.as_slice.ensures.value c.in_default.ensures, refl)

@@ -1,6 +1,4 @@
-use Rattle.std.proofs.Common.{◌∙◌, ap}
-use Rattle.std.specs.List.{list_any}
-use Rattle.mum_users.specs.SlotMasks.{is_row_of}
+use Rattle.mum_users.proofs.Common.{◌∙◌, ap, list_any, is_row_of}
 use Rattle.mum_users.proofs.Members.{has_row-member}
 use Rattle.mum_users.proofs.roster.Roster.has_member.Goals as goal
 

@@ -1,14 +1,6 @@
-use Rattle.std.proofs.Common.{ℕ, ap, ◌≡◌, ◌∙◌, ◌+◌, ◌<◌, None, sym, subst, arith}
-use Rattle.std.specs.Vec.{vec_capacity}
-use Rattle.mum_users.specs.Numbers.{IsKept}
-use Rattle.mum_base.specs.declared.number.TheConstants.ChannelId.{ROOT}
-use Rattle.mum_users.specs.Sessions.{free_slot_from, join_fault}
-use Rattle.mum_users.specs.SlotMasks.{with_slot}
-use Rattle.mum_users.specs.State.{RosterState}
-use Rattle.mum_users.proofs.Numbers.{IsNumbered-joined}
-use Rattle.mum_users.proofs.Rosters.{IsKept-joined, join_parts, room_to_join}
+use Rattle.mum_users.proofs.Common.{ℕ, ap, ◌≡◌, ◌∙◌, ◌+◌, ◌<◌, None, sym, subst, arith, vec_capacity, IsKept, ROOT, free_slot_from, join_fault, with_slot, RosterState}
+use Rattle.mum_users.proofs.{Numbers.IsNumbered-joined, Rosters.IsKept-joined, Rosters.join_parts, Rosters.room_to_join, roster.Roster.join.Goals.After-set_slot}
 use Rattle.mum_users.proofs.roster.Roster.join.Goals as goal
-use Rattle.mum_users.proofs.roster.Roster.join.Goals.{After-set_slot}
 
 -- what is left is a proper roster with the slots of its sessions
 kept : (c : After-set_slot) → IsKept (record { sessions = c.insert.new.self.items; listeners = c.self.inside.listeners; targets = c.self.inside.targets.items; last = c.self.inside.last + 1; limit = c.self.inside.limit }) c.push_reserved.new.self.items c.set_slot.new.rows.items (vec_capacity c.set_slot.new.rows) c.self.inside.listener_rows.items

@@ -1,8 +1,5 @@
-use Rattle.std.proofs.Common.{not, refl, arith}
-use Rattle.mum_users.specs.Numbers.{is_slot_of}
-use Rattle.mum_users.proofs.Numbers.{IsNumbered-filter}
-use Rattle.mum_users.proofs.ListenerRows.{listeners-left}
-use Rattle.mum_users.proofs.Rosters.{AreMasks-left, IsKept-of, IsProper-left, here_from, not_found}
+use Rattle.mum_users.proofs.Common.{not, refl, arith, is_slot_of}
+use Rattle.mum_users.proofs.{Numbers.IsNumbered-filter, ListenerRows.listeners-left, Rosters.AreMasks-left, Rosters.IsKept-of, Rosters.IsProper-left, Rosters.here_from, Rosters.not_found}
 use Rattle.mum_users.proofs.roster.Roster.leave.Goals as goal
 
 pub returns-in_default-clause-outcome : goal.returns-in_default-clause-outcome

@@ -1,10 +1,6 @@
-use Rattle.std.proofs.Common.{refl, sym}
-use Rattle.std.proofs.lemmas.Result.{err_from_is_err_and}
-use Rattle.mum_users.specs.Proper.{IsProper}
-use Rattle.mum_users.proofs.ListenerRows.{listeners-more}
-use Rattle.mum_users.proofs.Rosters.{IsProper-listening, absent_listener, listed_already, listen_allowed, listen_crowded, listen_too_many, there_from}
+use Rattle.mum_users.proofs.Common.{refl, sym, err_from_is_err_and, IsProper}
+use Rattle.mum_users.proofs.{ListenerRows.listeners-more, Rosters.IsProper-listening, Rosters.absent_listener, Rosters.listed_already, Rosters.listen_allowed, Rosters.listen_crowded, Rosters.listen_too_many, Rosters.there_from, roster.Roster.listen.Goals.After-set_slot}
 use Rattle.mum_users.proofs.roster.Roster.listen.Goals as goal
-use Rattle.mum_users.proofs.roster.Roster.listen.Goals.{After-set_slot}
 
 pub returns-in_default-clause-outcome : goal.returns-in_default-clause-outcome
 returns-in_default-clause-outcome c = (absent_listener _ _ c.args.session c.args.channel _ c.self.view_is c.as_slice.ensures.value c.in_default.ensures, refl)

@@ -1,5 +1,4 @@
-use Rattle.std.proofs.Common.{◌∙◌, ap}
-use Rattle.mum_users.specs.SlotMasks.{mask_at}
+use Rattle.mum_users.proofs.Common.{◌∙◌, ap, mask_at}
 use Rattle.mum_users.proofs.Members.{bits_of_word}
 use Rattle.mum_users.proofs.roster.Roster.members.Goals as goal
 

@@ -1,5 +1,4 @@
-use Rattle.std.proofs.Common.{arith, ap, sym, ◌∙◌, length}
-use Rattle.mum_users.specs.SlotMasks.{masks_of}
+use Rattle.mum_users.proofs.Common.{arith, ap, sym, ◌∙◌, length, masks_of}
 use Rattle.mum_users.proofs.Rosters.{IsKept-made, IsKept-stayed, IsProper-with_placement, room_for_all}
 use Rattle.mum_users.proofs.roster.Roster.place_all.Goals as goal
 

@@ -1,11 +1,6 @@
-use Rattle.std.proofs.Common.{refl, set}
-use Rattle.std.specs.Vec.{vec_capacity}
-use Rattle.mum_users.specs.Numbers.{IsKept}
-use Rattle.mum_users.specs.Flags.{flagged}
-use Rattle.mum_users.proofs.Rosters.{IsKept-set, found, not_found}
-use Rattle.mum_users.proofs.Silence.{flagged_keeps}
+use Rattle.mum_users.proofs.Common.{refl, set, vec_capacity, IsKept, flagged}
+use Rattle.mum_users.proofs.{Rosters.IsKept-set, Rosters.found, Rosters.not_found, Silence.flagged_keeps, roster.Roster.set_flags.Goals.After-change_flags}
 use Rattle.mum_users.proofs.roster.Roster.set_flags.Goals as goal
-use Rattle.mum_users.proofs.roster.Roster.set_flags.Goals.{After-change_flags}
 
 pub returns-in-None-clause-outcome : goal.returns-in-None-clause-outcome
 returns-in-None-clause-outcome c = (not_found _ _ c.args.session _ c.self.view_is c.as_slice.ensures.value c.in-None.ensures, refl)

@@ -1,5 +1,4 @@
-use Rattle.std.proofs.Common.{◌≤◌, ap, arith}
-use Rattle.mum_users.specs.State.{RosterState}
+use Rattle.mum_users.proofs.Common.{◌≤◌, ap, arith, RosterState}
 use Rattle.mum_users.proofs.Rosters.{IsProper-limited}
 use Rattle.mum_users.proofs.roster.Roster.set_limit.Goals as goal
 

@@ -1,10 +1,6 @@
-use Rattle.std.proofs.Common.{not, sym}
-use Rattle.mum_users.specs.declared.target.TargetRow.{TargetRow}
-use Rattle.mum_users.specs.Proper.{IsProper}
-use Rattle.mum_users.specs.State.{is_target}
-use Rattle.mum_users.proofs.Rosters.{IsProper-fewer_targets, IsProper-with_target, is_sound-from}
+use Rattle.mum_users.proofs.Common.{not, sym, TargetRow, IsProper, is_target}
+use Rattle.mum_users.proofs.{Rosters.IsProper-fewer_targets, Rosters.IsProper-with_target, Rosters.is_sound-from, roster.Roster.set_target.Goals.In_ok-put_target}
 use Rattle.mum_users.proofs.roster.Roster.set_target.Goals as goal
-use Rattle.mum_users.proofs.roster.Roster.set_target.Goals.{In_ok-put_target}
 
 pub invariant_of-self : goal.invariant_of-self
 invariant_of-self c = record {

@@ -1,12 +1,6 @@
-use Rattle.std.proofs.Common.{refl, set}
-use Rattle.std.specs.Prelude.{unwrap_or}
-use Rattle.std.specs.Option.{option_copied}
-use Rattle.std.proofs.lemmas.Result.{err_from_is_err_and}
-use Rattle.std.specs.Vec.{vec_capacity}
-use Rattle.mum_users.specs.Numbers.{IsKept}
-use Rattle.mum_users.proofs.Rosters.{IsKept-set, found, here_from, not_found}
+use Rattle.mum_users.proofs.Common.{refl, set, unwrap_or, option_copied, err_from_is_err_and, vec_capacity, IsKept}
+use Rattle.mum_users.proofs.{Rosters.IsKept-set, Rosters.found, Rosters.here_from, Rosters.not_found, roster.Roster.set_texts.Goals.After-change_texts}
 use Rattle.mum_users.proofs.roster.Roster.set_texts.Goals as goal
-use Rattle.mum_users.proofs.roster.Roster.set_texts.Goals.{After-change_texts}
 
 pub returns-in-None-clause-outcome : goal.returns-in-None-clause-outcome
 returns-in-None-clause-outcome c = (not_found _ _ c.args.session _ c.self.view_is c.as_slice.ensures.value c.in-None.ensures, refl)

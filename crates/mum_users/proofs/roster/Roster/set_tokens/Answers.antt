@@ -1,10 +1,6 @@
-use Rattle.std.proofs.Common.{refl, set}
-use Rattle.std.proofs.lemmas.Result.{err_from_is_err_and}
-use Rattle.std.specs.Vec.{vec_capacity}
-use Rattle.mum_users.specs.Numbers.{IsKept}
-use Rattle.mum_users.proofs.Rosters.{IsKept-set, found, here_from, not_found}
+use Rattle.mum_users.proofs.Common.{refl, set, err_from_is_err_and, vec_capacity, IsKept}
+use Rattle.mum_users.proofs.{Rosters.IsKept-set, Rosters.found, Rosters.here_from, Rosters.not_found, roster.Roster.set_tokens.Goals.After-index_mut-user}
 use Rattle.mum_users.proofs.roster.Roster.set_tokens.Goals as goal
-use Rattle.mum_users.proofs.roster.Roster.set_tokens.Goals.{After-index_mut-user}
 
 pub returns-in-None-clause-outcome : goal.returns-in-None-clause-outcome
 returns-in-None-clause-outcome c = (not_found _ _ c.args.session _ c.self.view_is c.as_slice.ensures.value c.in-None.ensures, refl)

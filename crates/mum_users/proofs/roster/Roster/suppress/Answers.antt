@@ -1,9 +1,6 @@
-use Rattle.std.proofs.Common.{refl, set}
-use Rattle.std.specs.Vec.{vec_capacity}
-use Rattle.mum_users.specs.Numbers.{IsKept}
-use Rattle.mum_users.proofs.Rosters.{IsKept-set, found, not_found}
+use Rattle.mum_users.proofs.Common.{refl, set, vec_capacity, IsKept}
+use Rattle.mum_users.proofs.{Rosters.IsKept-set, Rosters.found, Rosters.not_found, roster.Roster.suppress.Goals.After-index_mut-user}
 use Rattle.mum_users.proofs.roster.Roster.suppress.Goals as goal
-use Rattle.mum_users.proofs.roster.Roster.suppress.Goals.{After-index_mut-user}
 
 pub returns-in-None-clause-outcome : goal.returns-in-None-clause-outcome
 returns-in-None-clause-outcome c = (not_found _ _ c.args.session _ c.self.view_is c.as_slice.ensures.value c.in-None.ensures, refl)

@@ -1,8 +1,5 @@
-use Rattle.std.proofs.Common.{◌&&◌, [], ◌∷◌, not, refl}
-use Rattle.mum_base.specs.Channels.{is_among}
-use Rattle.mum_users.specs.State.{is_of_session}
-use Rattle.mum_users.proofs.ListenerRows.{listeners-fewer}
-use Rattle.mum_users.proofs.Rosters.{IsProper-fewer_listeners, here_from, not_found}
+use Rattle.mum_users.proofs.Common.{◌&&◌, [], ◌∷◌, not, refl, is_among, is_of_session}
+use Rattle.mum_users.proofs.{ListenerRows.listeners-fewer, Rosters.IsProper-fewer_listeners, Rosters.here_from, Rosters.not_found}
 use Rattle.mum_users.proofs.roster.Roster.unlisten.Goals as goal
 
 pub returns-in_default-clause-outcome : goal.returns-in_default-clause-outcome

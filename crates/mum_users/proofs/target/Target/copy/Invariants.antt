@@ -1,4 +1,4 @@
-use Rattle.std.proofs.Common.{◌≡◌, take}
+use Rattle.mum_users.proofs.Common.{◌≡◌, take}
 use Rattle.mum_users.proofs.target.Target.copy.Given as goal
 
 abbrev pub invariant-loop-item : goal.invariant-loop-item

@@ -1,6 +1,4 @@
-use Rattle.std.proofs.Common.{sym, subst}
-use Rattle.mum_tree.specs.Rows.{Rise}
-use Rattle.mum_tree.specs.State.{TreeState}
+use Rattle.mum_viewer.proofs.Common.{sym, subst, Rise, TreeState}
 use Rattle.mum_viewer.proofs.picture.Picture.of.Goals as goal
 
 pub shown_channels-requires : goal.shown_channels-requires

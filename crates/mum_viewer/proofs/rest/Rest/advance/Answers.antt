@@ -1,4 +1,4 @@
-use Rattle.std.proofs.Common.{◌≡◌, ◌≤◌, ℕ, List, length, drop, ap, sym, ◌∙◌, arith}
+use Rattle.mum_viewer.proofs.Common.{◌≡◌, ◌≤◌, ℕ, List, length, drop, ap, sym, ◌∙◌, arith}
 use Rattle.mum_viewer.proofs.Rests.{fewer_left, left_are}
 use Rattle.mum_viewer.proofs.rest.Rest.advance.Goals as goal
 

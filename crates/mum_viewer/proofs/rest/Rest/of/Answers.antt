@@ -1,4 +1,4 @@
-use Rattle.std.proofs.Common.{rules}
+use Rattle.mum_viewer.proofs.Common.{rules}
 use Rattle.mum_viewer.proofs.Rests.{all_left}
 use Rattle.mum_viewer.proofs.rest.Rest.of.Goals as goal
 

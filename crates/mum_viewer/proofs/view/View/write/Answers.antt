@@ -1,4 +1,4 @@
-use Rattle.std.proofs.Common.{rules}
+use Rattle.mum_viewer.proofs.Common.{rules}
 use Rattle.mum_viewer.proofs.Steps.{ends, finishes, writes}
 use Rattle.mum_viewer.proofs.view.View.write.Goals as goal
 

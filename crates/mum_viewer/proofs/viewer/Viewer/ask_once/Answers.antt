@@ -1,4 +1,4 @@
-use Rattle.std.proofs.Common.{rules}
+use Rattle.mum_viewer.proofs.Common.{rules}
 use Rattle.mum_viewer.proofs.viewer.Viewer.ask_once.Goals as goal
 
 pub returns : goal.returns

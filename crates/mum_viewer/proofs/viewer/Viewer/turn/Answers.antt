@@ -1,9 +1,6 @@
-use Rattle.std.proofs.Common.{◌≡◌, IsTrue, rules, subst, sym}
-use Rattle.std.specs.Prelude.{◌↔◌}
-use Rattle.mum_crew.specs.declared.role.Turn.{Turn}
-use Rattle.mum_crew.specs.declared.role.Turn.TheVariants as turns
+use Rattle.mum_viewer.proofs.Common.{◌≡◌, IsTrue, rules, subst, sym, ◌↔◌, Turn, has_ended, turn_of}
 use Rattle.mum_viewer.proofs.Answered.{is_done}
-use Rattle.mum_viewer.specs.Viewer.{has_ended, turn_of}
+use Rattle.mum_crew.specs.declared.role.Turn.TheVariants as turns
 use Rattle.mum_viewer.proofs.viewer.Viewer.turn.Goals as goal
 
 pub returns-clause-turned : goal.returns-clause-turned

@@ -1,4 +1,4 @@
-use Rattle.std.proofs.Common.{ℕ, ◌+◌, ◌≤◌, ◌^◌, ◌<◌, List, ◌++◌, length, ap, arith, length-append}
+use Rattle.mum_voice.proofs.Common.{ℕ, ◌+◌, ◌≤◌, ◌^◌, ◌<◌, List, ◌++◌, length, ap, arith, length-append}
 use Rattle.mum_voice.proofs.Shortest.{length-shortest_small}
 use Rattle.mum_voice.proofs.packet.Packet.copy_into.Goals as goal
 

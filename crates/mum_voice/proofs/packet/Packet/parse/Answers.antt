@@ -1,5 +1,4 @@
-use Rattle.std.proofs.Common.{sym, ap, ◌∙◌, arith}
-use Rattle.mum_voice.specs.Packet.{packet}
+use Rattle.mum_voice.proofs.Common.{sym, ap, ◌∙◌, arith, packet}
 use Rattle.mum_voice.proofs.Parsing.{packet-spelled, packet-found, fault-found, fault-there, is_proper}
 use Rattle.mum_voice.proofs.packet.Packet.parse.Goals as goal
 

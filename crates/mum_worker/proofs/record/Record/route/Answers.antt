@@ -1,5 +1,5 @@
 -- A packet that was routed has some bytes, so its entry has a line.
-use Rattle.std.proofs.Common.{ℕ, ◌<◌, List, length, rules, subst}
+use Rattle.mum_worker.proofs.CommonNames.{ℕ, ◌<◌, List, length, rules, subst}
 use Rattle.mum_worker.proofs.Journals.{packet_filled, voice_behind}
 use Rattle.mum_worker.proofs.record.Record.route.Goals as goal
 

@@ -1,9 +1,4 @@
-use Rattle.std.proofs.Common.{◌≡◌, ℕ, Bool, true, false, ◌↔◌, IsTrue, refl, ap, ◌∙◌}
-use Rattle.std.specs.Prelude.{if◌then◌else◌}
-use Rattle.mum_crew.specs.declared.role.Turn.{Turn}
-use Rattle.mum_crew.specs.declared.role.Turn.TheVariants.{Worked, Idle, Done}
-use Rattle.mum_worker.specs.Facts.{is_done}
-use Rattle.mum_worker.specs.declared.role.WorkerOpening.{WorkerOpening}
+use Rattle.mum_worker.proofs.CommonNames.{◌≡◌, ℕ, Bool, true, false, ◌↔◌, IsTrue, refl, ap, ◌∙◌, if◌then◌else◌, Turn, Worked, Idle, Done, is_done, WorkerOpening}
 use Rattle.mum_worker.proofs.Openings.{turned_same}
 use Rattle.mum_worker.proofs.role.WorkerRole.turn.Goals as goal
 

@@ -1,8 +1,4 @@
-use Rattle.std.proofs.Common.{Some, ap, refl, subst}
-use Rattle.mum_published.specs.Bell.{rung}
-use Rattle.mum_worker.specs.Bell.{BellFacts, TakesRung}
-use Rattle.mum_worker.specs.Facts.{WorkerFacts}
-use Rattle.mum_worker.specs.Hearing.{Heeds}
+use Rattle.mum_worker.proofs.CommonNames.{Some, ap, refl, subst, rung, BellFacts, TakesRung, WorkerFacts, Heeds}
 use Rattle.mum_worker.proofs.worker.Worker.hear.Goals as goal
 
 pub returns-in-Some : goal.returns-in-Some

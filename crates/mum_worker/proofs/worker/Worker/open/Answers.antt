@@ -1,8 +1,5 @@
 -- A worker works over what it was given.
-use Rattle.std.proofs.Common.{◌∙◌, List, ap, length, map, refl}
-use Rattle.std.proofs.lemmas.List.{length-map}
-use Rattle.mum_outbox.specs.Calls.{lower_half, new_pass}
-use Rattle.mum_outbox.specs.Facts.{QueueFacts}
+use Rattle.mum_worker.proofs.CommonNames.{◌∙◌, List, ap, length, map, refl, length-map, lower_half, new_pass, QueueFacts}
 use Rattle.mum_worker.proofs.worker.Worker.open.Goals as goal
 
 pub open-requires-3-clause-boxes : goal.open-requires-3-clause-boxes

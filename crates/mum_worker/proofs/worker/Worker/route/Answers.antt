@@ -1,8 +1,4 @@
-use Rattle.std.proofs.Common.{ap, sym, subst, ◌∙◌}
-use Rattle.mum_router.specs.Facts.{RouterFacts}
-use Rattle.mum_router.specs.Picking.{EntryStood}
-use Rattle.mum_voice.specs.Packet.{plain_parts}
-use Rattle.mum_worker.specs.Facts.{WorkerFacts}
+use Rattle.mum_worker.proofs.CommonNames.{ap, sym, subst, ◌∙◌, RouterFacts, EntryStood, plain_parts, WorkerFacts}
 use Rattle.mum_worker.proofs.Stood.{stood_for}
 use Rattle.mum_worker.proofs.worker.Worker.route.Goals as goal
 

@@ -1,4 +1,4 @@
-use Rattle.std.proofs.lemmas.List.{take_rest}
+use Rattle.mum_io.proofs.Common.{take_rest}
 use Rattle.mum_io.proofs.MemoryLemmas.{drop-given}
 use Rattle.mum_io.proofs.memory.unread.Unread.read.Goals as goal
 

@@ -50,8 +50,11 @@ class PlainClient:
         self.stream.close()
 
     def send(self, kind, payload=b""):
+        self.write(frame(kind, payload))
+
+    def write(self, octets):
         self.stream.settimeout(PATIENCE)
-        self.stream.sendall(frame(kind, payload))
+        self.stream.sendall(octets)
 
     def read(self, seconds):
         """Takes what comes within this many seconds: at most one piece. False where nothing came."""

@@ -12,7 +12,7 @@ from contextlib import closing, contextmanager
 from client import PATIENCE
 from reader import kept
 from reader.mumble import ACL, CHANNEL_REMOVE, CHANNEL_STATE, PERMISSION_DENIED, PING, decode, encode
-from reader.wire import message
+from reader.wire import frame, message
 from server import Server
 from trial import wait
 
@@ -139,12 +139,25 @@ class Editor:
         self.links = links or set()
         self.edits = []
         self.greatest = max(self.channels)
+        # the frames that are to be written in one piece, while there are any
+        self.held = None
 
     def send(self, kind, fields, change):
         """Sends an edit that is accepted, and notes what it does."""
-        self.client.send(kind, encode(kind, fields))
+        if self.held is None:
+            self.client.send(kind, encode(kind, fields))
+        else:
+            self.held += frame(kind, encode(kind, fields))
         self.edits.append(change)
         change(self.channels, self.links)
+
+    @contextmanager
+    def at_once(self):
+        """What is sent within is written in one piece at its end."""
+        self.held = bytearray()
+        yield
+        self.client.write(self.held)
+        self.held = None
 
     def make(self, name, parent=ROOT, **info):
         """A new channel, and its number."""

@@ -18,6 +18,8 @@ from server import Tests
 KILLS = int(os.environ.get("KILLS", "5"))
 RESTS = int(os.environ.get("RESTS", str(max(1, KILLS // 5))))
 CHANNELS = 1000
+# How many edits are sent in one piece right before a kill, more than are kept before it comes.
+LAST_EDITS = 300
 # What is there where no channel was ever made.
 ROOT_ALONE = ({ROOT: (ROOT, "Root", "", 0, 0, {})}, set())
 # How long it may take until all that was accepted is kept, in seconds.
@@ -85,6 +87,14 @@ def edit_until(editor, generator, end):
             editor.read()
 
 
+def edit_at_once(editor):
+    """Sends many edits of a new channel in one piece."""
+    with editor.at_once():
+        number = editor.make("the last")
+        for place in range(1, LAST_EDITS):
+            editor.edit(number, position=place)
+
+
 def beginning_of(editor, path, folder, before):
     """After how many of the edits the file has what was there. The program is not asked: what Python's own SQLite reads
     is compared."""
@@ -118,8 +128,9 @@ def time_to_keep(folder, generator):
 
 
 def killed_once(folder, generator, is_new, seconds=None):
-    """Kills a server so many seconds after its client began to edit, or, without a number, a second after all of its
-    edits, and starts another over its file. How many edits were sent, and how many of them were kept."""
+    """Kills a server so many seconds after its client began to edit, right behind a last piece of edits, or, without a
+    number, a second after all of its edits, and starts another over its file. How many edits were sent, and how many
+    of them were kept."""
     path = os.path.join(folder, "kept.db")
     before = begun(folder, path, is_new)
     with KeepingServer(below(folder, "first"), path) as server:
@@ -132,6 +143,7 @@ def killed_once(folder, generator, is_new, seconds=None):
             time.sleep(REST)
         else:
             time.sleep(max(0, end - time.monotonic()))
+            edit_at_once(editor)
         server.process.kill()
         server.process.wait()
     count = beginning_of(editor, path, folder, before)
